@@ -1,0 +1,15 @@
+-- The definitions of paper 01, in its order. Each stands under the sentence that it renders.
+pub mod Words
+pub mod Memory
+pub mod Registers
+pub mod Fresh
+pub mod Checksum
+pub mod Filter
+pub mod Status
+pub mod Arrivals
+pub mod Transmission
+pub mod Sending
+pub mod Refusals
+pub mod Calls
+pub mod Acts
+pub mod Machine
