@@ -8,19 +8,16 @@
 use mathlib.Core.Path.{_≡_, refl}
 use mathlib.Core.Bool.{Bool, true, false}
 use mathlib.Core.List.{List, [], _∷_, _++_, map}
-use Prim.Native.Nat.{ℕ, _+_, _*_, _^_}
-use lib.ListN.{length, take, drop, replicate}
+use Prim.Native.Nat.{ℕ, _+_, _^_}
+use lib.ListN.{length, take, replicate}
 use Rattle.paper.specs.declared.Registers.{Registers}
 use Rattle.paper.specs.declared.Ring.{Ring}
-use Rattle.paper.specs.declared.Port.{Port}
 use Rattle.paper.specs.declared.Expect.{Expect}
 use Rattle.paper.specs.declared.Expect.the-variants.{CommandA, CommandB, Payload}
 use Rattle.paper.specs.declared.Packet.the-variants.{Closed, Opened, Known}
 use Rattle.paper.specs.declared.State.{State}
-use Rattle.paper.specs.declared.Answer.{Answer}
-use Rattle.paper.specs.Words.{series}
 use Rattle.paper.specs.Registers.{RXALL, MCPAS, PRMS, INVFILT, PASSBAD, HO, HPFILT, BCAST, TXEN, RXEN, oneMore}
-use Rattle.paper.specs.Fresh.{freshState, freshPort, empty}
+use Rattle.paper.specs.Fresh.{freshPort, empty}
 use Rattle.paper.specs.Filter.{passes}
 use Rattle.paper.specs.Status.{Look}
 use Rattle.paper.specs.Arrivals.{arrival, arrivalAnswer}

@@ -6,11 +6,9 @@
 use mathlib.Core.Path.{_≡_, refl}
 use mathlib.Core.Bool.{Bool, true, false, _&&_, _||_}
 use mathlib.Core.List.{List, [], _∷_, _++_, map}
-use Prim.Native.Nat.{ℕ, suc, _+_, _/_, _%_, _^_}
+use Prim.Native.Nat.{ℕ, _+_, _/_, _%_, _^_}
 use lib.Dec.{eqb}
 use lib.ListN.{length, replicate}
-use Rattle.paper.specs.declared.Registers.{Registers}
-use Rattle.paper.specs.declared.Control.{Control}
 use Rattle.paper.specs.declared.Rule.the-variants.{Equal, NotEqual, Hash, Pass}
 use Rattle.paper.specs.declared.Setting.{Setting}
 use Rattle.paper.specs.declared.Setting.the-variants.{Undefined, Defined}

