@@ -5,4 +5,4 @@ test:
 	@tools/gate
 
 demo:
-	@rt check demo && cat target/log/demo.out >/dev/null && target/bin/demo
+	@rt check demo && target/bin/demo
