@@ -10,4 +10,6 @@ pub mod Compute
 pub mod Samples
 pub mod Vectors
 pub mod Rows
-pub mod Cases
+pub mod CasesReceive
+pub mod CasesTransmit
+pub mod CasesRefusals

@@ -13,17 +13,15 @@ use Rattle.paper.specs.declared.Rule.the-variants.{Equal, NotEqual, Hash
 use Rattle.paper.specs.declared.Setting.{Setting}
 use Rattle.paper.specs.declared.Setting.the-variants.{Undefined, Defined}
 use Rattle.paper.specs.Words.{if_then_else_, series}
-use Rattle.paper.specs.Memory.{size, TxData, TxStatus, RxData, RxStatus, Change, keeps, puts, takes, restarts}
-use Rattle.paper.specs.Registers.{RXALL, RXEN, PASSBAD, settings, isDefined}
+use Rattle.paper.specs.Memory.{size, TxData, TxStatus, RxData, RxStatus}
+use Rattle.paper.specs.Registers.{RXALL, PASSBAD, settings, isDefined}
 use Rattle.paper.specs.Filter.{ours}
-use Rattle.paper.specs.Status.{Look}
 use Rattle.paper.specs.Transmission.{hostWords, storedWords, frontWords, behindWords}
 use Rattle.paper.specs.Sending.{txStatus}
 use Rattle.paper.specs.Calls.{MacWrite, RxFifoInf, TxFifoInf, Arrive, TxWord}
-use Rattle.paper.specs.Acts.{arrive}
 use Rattle.paper.specs.Machine.{answers, fresh}
 use Rattle.paper.proofs.Compute.{everything}
-use Rattle.paper.proofs.Samples.{station, stationed, packed, told, us, another, everybody, seen, frame65, filled}
+use Rattle.paper.proofs.Samples.{posted, receiving, station, told, us, another, everybody, seen, frame65, filled}
 
 pub record Row : Type 0 where
   pub row : ℕ
@@ -44,21 +42,6 @@ row3 = 0x0105_203D
 
 abbrev pub row4 : ℕ
 row4 = 0x021F_0002
-
-abbrev pub putIn : Change → List ℕ
-putIn keeps = []
-putIn (puts ws) = ws
-putIn (takes k) = []
-putIn restarts = []
-
--- what arrives at the station with MAC_CR and both receive FIFOs empty: the answer, and the status put
-abbrev pub posted : (maccr : ℕ) → Look → List ℕ
-posted maccr l =
-    let act = arrive (stationed maccr) (record { txdata = 0; txstatus = 0; rxdata = 0; rxstatus = 0 }) l [] in
-    packed (act .answer) ∷ putIn (act .changes .rxstatus)
-
-abbrev pub receiving : ℕ
-receiving = 2 ^ RXEN
 
 -- the answers as 01 numbers its lines
 abbrev pub discarded : ℕ

@@ -1,4 +1,5 @@
--- FCS and hash vectors, from the standard and from an outside program (zlib's crc32; a shift register for the hash). Computed. Assumes nothing.
+-- FCS and hash vectors: the customary check value of the standard's CRC-32, and others from outside programs (zlib's crc32; a shift register for the hash).
+-- Computed. Assumes nothing.
 use mathlib.Core.Path.{_≡_, refl}
 use mathlib.Core.Bool.{true, false}
 use mathlib.Core.List.{[], _∷_, _++_, map}

@@ -66,7 +66,7 @@ macRead register k =
     if not (isRegister register) then refuses NoRegister k else
     does k unchanged (readRegister register (k .registers))
 
--- 01: "4: bad value, or n outside 2 to 14", "5: n or a dump not allowed now"; "this restarts all FIFOs"
+-- 01, refusals 4 and 5: "bad value, or n outside 2 to 14", "n or a dump not allowed now"; "this restarts all FIFOs"
 abbrev pub setSplit : (n : ℕ) → Control → Four ℕ → Act
 setSplit n k levels =
     if not (goodN n) then refuses BadValue k else
@@ -114,11 +114,12 @@ arrive k levels l words =
     (arrival (k .registers) (size RxData (k .registers .n) - levels .rxdata) (size RxStatus (k .registers .n) - levels .rxstatus) l)
     k l words
 
--- the oldest word of a FIFO: 11 where there is none; else that word as the value, with the changes that go with it
+-- 01, refusal 11: "nothing to read, peek or send". The oldest word of a FIFO: 11 where there is none; else that word as the value, with the changes that go with it
 abbrev pub oldest : Control → Four Change → List ℕ → Act
 oldest k c [] = refuses NothingThere k
 oldest k c (w ∷ q) = does k c w
 
+-- a word for transmission: what the port does with it
 abbrev pub txWord : (word : ℕ) → Control → Four ℕ → Act
 txWord word k levels =
     let turn = portTakes (ltb (levels .txdata) (size TxData (k .registers .n))) (k .port) word in
@@ -129,7 +130,8 @@ txWord word k levels =
       answer = turn .answer;
     }
 
--- 01: "12: TX status full", "13: out buffer short"; "The answer is the frame's length."
+-- 01, refusals 12 and 13: "TX status full", "out buffer short"; "The answer is the frame's length." statuses are those waiting, whole is the number of
+-- whole packets after the call.
 unfoldable pub sends : Head → (outcome out statuses whole : ℕ) → Control → Act
 sends NoPacket outcome out statuses whole k = refuses OutOfRange k
 sends (Found b buffers) outcome out statuses whole k =

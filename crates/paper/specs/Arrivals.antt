@@ -33,7 +33,8 @@ wordsFor len = (len + 3) / 4
 unfoldable pub dataWords : List ℕ → List ℕ
 dataWords frame = series (λ k. wordAt frame (4 * k)) 0 (wordsFor (length frame))
 
--- 01, line 6: "Free RX data words below L/4 rounded up, or no free RX status: Dropped". Sees a length and levels only.
+-- 01, line 6: "Free RX data words below L/4 rounded up, or no free RX status: Dropped". Sees a length and how many words and
+-- statuses are free.
 unfoldable pub room : (len words statuses : ℕ) → Room
 room len words statuses = if ltb words (wordsFor len) || eqb statuses 0 then Short else Fits
 
@@ -54,7 +55,8 @@ abbrev pub byRoom : Room → Arrival
 byRoom Short = Dropped
 byRoom Fits = Stored
 
--- 01: "The first line that applies answers". words and statuses are the free RX data words and the free RX statuses.
+-- 01: "The first line that applies answers: 1. L is 0 or above 2,048: refusal 1. 2. Other flag bits: refusal 2. 3. RXEN clear: Ignored." "5. Filter says no
+-- and RXALL is clear: Filtered." words and statuses are the free RX data words and the free RX statuses.
 unfoldable pub arrival : Registers → (words statuses : ℕ) → Look → Arrival
 arrival r words statuses l =
     if refusesLength (l .len) then RefusedArrival ArrivingLength else

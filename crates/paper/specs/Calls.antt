@@ -1,4 +1,4 @@
--- The public calls with their inputs. Paper 01 names what each does; their names are those of the header.
+-- The public calls with their inputs. Paper 01 says what each does.
 --   Call                  a call; words, values and bytes are numbers, a frame and an out buffer lists of bytes
 --   isReset c             the call is reset, the one that needs no range
 --   lends c               the out buffer that a call lends, as it is before the call; [] for a call that lends none

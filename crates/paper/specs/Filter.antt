@@ -37,6 +37,7 @@ abbrev pub ours : Registers → List ℕ
 ours r = bits 7 0 (r .addrl) ∷ bits 15 8 (r .addrl) ∷ bits 23 16 (r .addrl) ∷ bits 31 24 (r .addrl) ∷ bits 7 0 (r .addrh) ∷ bits 15 8 (r .addrh) ∷ []
 
 -- 01: "the highest chooses HASHH (1) or HASHL (0), the other five, x^30 the highest, number the bit, 0 to 31; pass if it is 1"
+-- "over the six destination bytes"
 abbrev pub inHash : Registers → List ℕ → Bool
 inHash r d = bit (hash d % 32) (if bit 5 (hash d) then r .hashh else r .hashl)
 

@@ -1,6 +1,6 @@
 -- The fresh state. Paper 01, Memory: "Reset restarts all four and sets the register defaults of the fresh state".
 --   freshMaccr, freshAddrh, freshAddrl, freshN    the defaults by name, for whoever cites them
---   freshRegisters, freshPort, empty, freshState
+--   freshRegisters, freshPort, freshControl, empty, freshState
 -- Differs from 000: MAC_CR 0 (ours), where 000 prints 00040000h.
 -- Assumes nothing.
 use mathlib.Core.Bool.{false}
@@ -13,7 +13,7 @@ use Rattle.paper.specs.declared.State.{State}
 use Rattle.paper.specs.declared.Packet.the-variants.{Closed}
 use Rattle.paper.specs.declared.Expect.the-variants.{CommandA}
 
--- 01: "n = 5; MAC_CR 0 (ours); ADDRH 0000FFFFh; ADDRL FFFFFFFFh; HASHH, HASHL, RX_DROP 0"
+-- 01: "TX_FIF_SZ is n, 2 to 14, fresh value 5"; "n = 5; MAC_CR 0 (ours); ADDRH 0000FFFFh; ADDRL FFFFFFFFh; HASHH, HASHL, RX_DROP 0"
 abbrev pub freshN : ℕ
 freshN = 5
 

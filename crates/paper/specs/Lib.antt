@@ -1,4 +1,4 @@
--- The definitions of paper 01, in its order. Each stands under the sentence that it renders.
+-- The definitions of paper 01, in its order where one does not need a later one. What renders a sentence of 01 stands under that sentence.
 pub mod Words
 pub mod Memory
 pub mod Registers

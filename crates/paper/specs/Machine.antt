@@ -46,6 +46,8 @@ waits w =
 abbrev pub levels : Four (List ℕ) → Four ℕ
 levels q = record { txdata = length (q .txdata); txstatus = length (q .txstatus); rxdata = length (q .rxdata); rxstatus = length (q .rxstatus) }
 
+-- 01: "Reset restarts all four and sets the register defaults"; "Reads return the stored value."; "RX_DROP counts dropped frames, reads and then clears";
+-- "Dumping TX status is always allowed."
 unfoldable pub decide : Call → Control → Four (List ℕ) → Act
 decide Reset k q = does freshControl restarted 0
 decide (MacWrite register value) k q = macWrite register value k

@@ -3,7 +3,7 @@
 --   said a                the refusal number and the value of an answer; 0 where 01 names none
 --   lentWell m            the lent memory has 4,096 words
 --   inRange s             each number of the state is in its range
--- The order of refusals is that of the tests in `decide` and `step` of Machine.
+-- The order of refusals is that of the tests: 14 and 15 in `act` of Machine, the others in each call's rule in Acts, in `arrival` and in `portTakes`.
 -- Combinations that no port reaches, such as payload words left with no B known, hold what no port accepts, and are out of range (DECISIONS 4).
 -- Assumes nothing.
 use mathlib.Core.Bool.{Bool, true, false, not, _&&_}
@@ -26,7 +26,10 @@ use Rattle.paper.specs.Memory.{wordsLent, size, TxData, TxStatus, RxData
 use Rattle.paper.specs.Registers.{goodRegisters}
 use Rattle.paper.specs.Transmission.{goodA, goodLength, packetLength, hostWords, isFirst}
 
--- 01: the table of refusal numbers
+-- 01: "arriving length", "flag or outcome bits", "no such register", "bad value, or n outside 2 to 14", "n or a dump not allowed now",
+-- "TX word while a transmit error stands", "bad A, or p of a first B out of range", "later tag or p differs, or sizes disagree",
+-- "a word to be stored finds TX data full", "sending with TXEN clear", "nothing to read, peek or send", "TX status full", "out buffer short",
+-- "lent memory not 4,096 words", "a state number out of its range, or the head packet in memory is none the port would store"
 abbrev pub number : Refusal → ℕ
 number ArrivingLength = 1
 number OtherBits = 2
@@ -49,7 +52,7 @@ abbrev pub said : Answer → Said
 said (Value v) = record { refusal = 0; value = v }
 said (Refused r) = record { refusal = number r; value = 0 }
 
--- 01: "14: lent memory not 4,096 words"
+-- 01, refusal 14: "lent memory not 4,096 words"
 abbrev pub lentWell : List ℕ → Bool
 lentWell m = eqb (length m) wordsLent
 
@@ -81,6 +84,7 @@ isKnown Closed = false
 isKnown Opened = false
 isKnown (Known b sizes) = true
 
+-- While payload is counted the A may be a first or a later one, so its First bit is judged by itself, which always passes (DECISIONS 3).
 unfoldable pub expectInRange : Expect → Bool
 expectInRange (CommandA packet) = packetInRange packet && not (awaitsB packet)
 expectInRange (CommandB a packet) = aInRange packet a && packetInRange packet

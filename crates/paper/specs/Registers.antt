@@ -1,5 +1,5 @@
 -- The registers. Paper 01, Registers, and of An arriving frame the table of settings.
---   RXALL .. RXEN                     the carried bits of MAC_CR, by number
+--   RXALL .. RXEN, carried            the carried bits of MAC_CR, by number
 --   settings, settingNumber, settingOf    the 32 settings, the number of a MAC_CR's setting, and that setting
 --   goodMaccr, goodAddrh, goodN       what a write accepts
 --   isRegister k, goodValue k v       there is a MAC register k; v may be written to it
@@ -8,6 +8,8 @@
 --   rxFifoInf, txFifoInf              the level words, from numbers of words and statuses
 --   oneMore                           RX_DROP after one more dropped frame
 --   withN, withDrops                  the registers with another n, or another RX_DROP
+--   isDefined                         whether a setting is defined
+--   isClosed, expectsFirst            no packet is open; the port expects an A with none open
 --   isIdle p                          no transmit buffer or packet is open and no transmit error stands
 --   mayResize, mayDumpTxData, mayDumpRx    whether setting n, or a dump, is allowed now
 -- Differs from 000: MAC_CR starts at 0 (ours) and no bit but these is carried (DECISIONS 21).

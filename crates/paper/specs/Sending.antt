@@ -68,7 +68,7 @@ freed [] = 1
 freed (x ∷ xs) = 1 + length (x .payload) + freed xs
 
 -- 01: "If p < 60 (ours) and bit 12 is clear, zeros follow up to 60 and the FCS is added, whatever bit 13 says; otherwise the FCS is added exactly when
--- bit 13 is clear."
+-- bit 13 is clear." The bytes given are as many as p, by the head test.
 unfoldable pub frameOf : (b : ℕ) → List ℕ → List ℕ
 frameOf b bytes =
     if ltb (packetLength b) 60 && not (noPadding b) then withFcs (bytes ++ replicate (60 - packetLength b) 0) else

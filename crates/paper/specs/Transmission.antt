@@ -10,7 +10,8 @@
 --   isStored a i          payload word i of a buffer, counting from 0, is stored
 --   Turn                  what a word does: the port after it, what becomes of TX data, the answer
 --   portTakes free p w    the turn of the word w, where free says whether TX data has a free word
--- Differs from 000: a buffer may have up to 2,047 bytes, and no error ends by itself (DECISIONS 7, 12).
+-- Differs from 000: middle buffers of 1 to 3 bytes pass, and no packet is too finely split (DECISIONS 12). A transmit error stands until TX data is dumped or
+-- the model is reset. "Other bits are stored and mean nothing."
 -- Assumes nothing.
 use mathlib.Core.Bool.{Bool, true, false, not, _&&_}
 use mathlib.Core.List.{[], _∷_}
@@ -32,6 +33,7 @@ use Rattle.paper.specs.Memory.{Change, keeps, puts}
 abbrev pub alignmentField : ℕ → ℕ
 alignmentField a = bits 25 24 a
 
+-- for field 3, which goodA shuts out, as for 2
 abbrev pub alignment : ℕ → ℕ
 alignment a = if eqb (alignmentField a) 0 then 4 else if eqb (alignmentField a) 1 then 16 else 32
 
@@ -119,7 +121,7 @@ fails r p = record { port = record { expect = p .expect; failed = true; whole = 
 abbrev pub moves : Expect → (whole : ℕ) → Change → Turn
 moves e whole c = record { port = record { expect = e; failed = false; whole = whole }; change = c; answer = Value 0 }
 
--- 01: "9: a word to be stored finds TX data full"
+-- 01, refusal 9: "a word to be stored finds TX data full". whole is the number of whole packets after the word.
 abbrev pub stores : Bool → Port → Expect → (whole : ℕ) → (w : ℕ) → Turn
 stores free p e whole w = if free then moves e whole (puts (w ∷ [])) else fails DataFull p
 
@@ -127,7 +129,7 @@ stores free p e whole w = if free then moves e whole (puts (w ∷ [])) else fail
 unfoldable pub takesA : Bool → Port → Packet → (w : ℕ) → Turn
 takesA free p packet w = if goodA (isOpen packet) w then stores free p (CommandB w (opened packet)) (p .whole) w else fails BadCommand p
 
--- 01: "B if First". A B with no packet open is none that a port expects: 15, as by its range.
+-- 01: "B if First"; "Bits 13 and 12 count in the first buffer's B only." A B with no packet open is none that a port expects: 15, as by its range.
 unfoldable pub takesB : Bool → Port → (a : ℕ) → Packet → (w : ℕ) → Turn
 takesB free p a Closed w = record { port = p; change = keeps; answer = Refused OutOfRange }
 takesB free p a Opened w =
@@ -158,7 +160,7 @@ takesExpected free p (CommandA packet) w = takesA free p packet w
 takesExpected free p (CommandB a packet) w = takesB free p a packet w
 takesExpected free p (Payload a left packet) w = takesPayload free p a left packet w
 
--- 01, Refusal numbers: "6: TX word while a transmit error stands"
+-- 01, refusal 6: "TX word while a transmit error stands"; the order is "TX words 6, 7, 8, 9"
 unfoldable pub portTakes : (free : Bool) → Port → (w : ℕ) → Turn
 portTakes free p w =
     if p .failed then record { port = p; change = keeps; answer = Refused ErrorStands } else

@@ -1,4 +1,4 @@
--- The vocabulary: a choice, the bits of a word, words and bytes, a series. Paper 01 uses these and defines none of them.
+-- The vocabulary: a choice, the bits of a word, words and bytes, a series. Paper 01 uses these; of them it says only how a word holds its bytes.
 --   if b then x else y    x where b holds, else y
 --   digit i v             bit i of v, as 0 or 1; 0 above v's highest bit
 --   bit i v               bit i of v is set
@@ -49,6 +49,7 @@ series f k (suc n) = f k ∷ series f (suc k) n
 abbrev pub wordAt : List ℕ → ℕ → ℕ
 wordAt s i = getD s i 0 + getD s (i + 1) 0 * 2 ^ 8 + getD s (i + 2) 0 * 2 ^ 16 + getD s (i + 3) 0 * 2 ^ 24
 
+-- 01: "A word's first byte is in bits 7 to 0."
 unfoldable pub bytesOf : List ℕ → List ℕ
 bytesOf [] = []
 bytesOf (w ∷ ws) = bits 7 0 w ∷ bits 15 8 w ∷ bits 23 16 w ∷ bits 31 24 w ∷ bytesOf ws

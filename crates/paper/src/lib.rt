@@ -14,7 +14,7 @@ pub struct Registers {
     pub drops: u32,
 }
 
-// A FIFO in the lent memory: the place of its oldest word, and the words waiting.
+// A FIFO in the lent memory: the place of its oldest word, and how many words wait.
 pub struct Ring {
     pub at: u32,
     pub count: u32,
@@ -34,7 +34,7 @@ pub enum Expect {
     Payload { a: u32, left: u32, packet: Packet },
 }
 
-// The transmit port: what it expects, whether a transmit error stands, the whole packets waiting.
+// The transmit port: what it expects, whether a transmit error stands, how many whole packets wait.
 pub struct Port {
     pub expect: Expect,
     pub failed: bool,
