@@ -3,7 +3,7 @@
 --   packet-sent, sent-by-the-bits-of-b, outcome-bits, tx-dumped
 -- Assumes nothing.
 use mathlib.Core.List.{List, [], _∷_, _++_, map}
-use Prim.Native.Nat.{ℕ, _+_, _^_}
+use Prim.Native.Nat.{ℕ, _^_}
 use lib.ListN.{replicate, length, take}
 use mathlib.Core.Path.{_≡_, refl}
 use Rattle.paper.specs.Registers.{TXEN}

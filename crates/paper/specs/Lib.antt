@@ -13,3 +13,7 @@ pub mod Refusals
 pub mod Calls
 pub mod Acts
 pub mod Machine
+pub mod Ledger
+pub mod Runs
+pub mod Promises
+pub mod Twins
