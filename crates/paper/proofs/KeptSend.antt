@@ -21,14 +21,15 @@ use Rattle.paper.specs.Registers.{TXEN}
 use Rattle.paper.specs.Sending.{headOf, frameOf, outAfter, goodOutcome, txStatus, shortestOut}
 use Rattle.paper.specs.Calls.{Send}
 use Rattle.paper.specs.Acts.{Act, refuses, withPort, sends}
-use Rattle.paper.specs.Machine.{World, waits, apply, act, decide, step, after, answer}
+use Rattle.paper.specs.Machine.{World, waits, act, decide, step, after, answer}
 use Rattle.paper.specs.Ledger.{Whole, Ledger, packetBytes, laid, put, taken, setsError, entered, note}
 use Rattle.paper.specs.Runs.{sending, sendingTo}
 use Rattle.paper.specs.Promises.{SendsOf, held}
 use Rattle.paper.proofs.Choice.{if-cases}
-use Rattle.paper.proofs.Rings.{AllFit, apply-nothing}
+use Rattle.paper.proofs.Rings.{AllFit}
 use Rattle.paper.proofs.Kept.{controlOf, Kept, Follows, Moves, kept-count, kept-apply}
 use Rattle.paper.proofs.KeptRange.{kept-act}
+use Rattle.paper.proofs.KeptMoves.{KeptUnder, kept-refused}
 use Rattle.paper.proofs.Packets.{sent-of-laid, freed-of-laid}
 use Rattle.paper.proofs.Unsent.{unsent, next-good, next-counts, next-taken, next-waits, head-never-none}
 
@@ -98,16 +99,7 @@ module _ {l : Ledger} {w : World} (h : Kept l w) (outcome : ℕ) (out : List ℕ
 
 -- ---- The invariant
 
--- the world and the ledger after a sending whose act is a
-abbrev KeptBy : Ledger → World → (outcome : ℕ) (out : List ℕ) → Act → Type 0
-KeptBy l w outcome out a = Kept (note (Send outcome out) (a .answer) l) (apply a w)
-
 module _ {l : Ledger} {w : World} (h : Kept l w) (outcome : ℕ) (out : List ℕ) where
-  -- A sending that is refused leaves both.
-  refused-keeps : (r : Refusal) → setsError r ≡ false → KeptBy l w outcome out (refuses r (controlOf l))
-  unfolding note if_then_else_
-  refused-keeps r e = rw (e, apply-nothing (refuses r (controlOf l)) w refl (sym (h .control))) h
-
   module _ (p : Whole) (ps : List Whole) (e : unsent l ≡ p ∷ ps) (v : ℕ) where
     -- Its changes fit: the words are there, and there is room for the status.
     accepted-fits : held TxStatus l < size TxStatus (l .registers .n) → AllFit (accepts p outcome (controlOf l)) w
@@ -140,7 +132,7 @@ module _ {l : Ledger} {w : World} (h : Kept l w) (outcome : ℕ) (out : List ℕ
 
   -- A sending that is accepted keeps the invariant.
   accepted-keeps : (p : Whole) (ps : List Whole) → unsent l ≡ p ∷ ps → held TxStatus l < size TxStatus (l .registers .n)
-      → KeptBy l w outcome out (accepts p outcome (controlOf l))
+      → KeptUnder (Send outcome out) l w (accepts p outcome (controlOf l))
   unfolding note
   accepted-keeps p ps e room = kept-apply h (accepted-moves p ps e _ room)
 
@@ -149,8 +141,8 @@ pub kept-send : {l : Ledger} {w : World} (outcome : ℕ) (out : List ℕ) → Ke
     → Kept (note (Send outcome out) (answer (Send outcome out) w) l) (after (Send outcome out) w)
 unfolding step
 kept-send {l} {w} outcome out h =
-    subst (KeptBy l w outcome out) (sym (send-does h outcome out))
-    (send-cases (KeptBy l w outcome out) l outcome (length out) (refused-keeps h outcome out) (accepted-keeps h outcome out))
+    subst (KeptUnder (Send outcome out) l w) (sym (send-does h outcome out))
+    (send-cases (KeptUnder (Send outcome out) l w) l outcome (length out) (kept-refused h (Send outcome out)) (accepted-keeps h outcome out))
 
 -- ---- The answer and the frame
 

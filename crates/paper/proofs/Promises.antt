@@ -10,6 +10,7 @@ use native.Mathlib.Nat.{mod-add-mod}
 use native.Mathlib.Omega.{arith}
 use lib.ListN.{length, getD, drop}
 use lib.Seq.{getD-drop}
+use Rattle.paper.specs.declared.Ring.{Ring}
 use Rattle.paper.specs.declared.Answer.{Answer}
 use Rattle.paper.specs.Memory.{Fifo, size, base, place, waiting}
 use Rattle.paper.specs.Calls.{Call}
@@ -52,22 +53,21 @@ never-lost m lent cs c = (other _ refl, other _ refl)
     other : (a : Answer) → isEntry a ≡ true → answer c (reached cs m) ≢ a
     other a t e = let z : true ≡ false = sym t ∙ sym (ap isEntry e) ∙ never-entry c (kept-run m lent cs) in let y : _≡_ {A = ℕ} 0 1 = cc in omega arith
 
--- A word that waits lies at its place: word j of a ring is at the place of its oldest plus j, and the oldest is at the number of words taken, both mod size.
+-- A word that waits lies at its place: word j of a ring is at the place of its oldest plus j, and the oldest is at the number t of words taken, both mod size.
+ring-place : (b s : ℕ) (r : Ring) (m p : List ℕ) (t j : ℕ) → waiting b s r m ≡ drop t p → r .at ≡ t % s → j < r .count
+    → getD m (place b s (t + j)) 0 ≡ getD p (t + j) 0
+unfolding waiting
+ring-place b s r m p t j queue at inside =
+    let same : (t + j) % s ≡ (r .at + j) % s = sym (rw at (mod-add-mod t s j)) in
+    rw same (sym (series-getD (λ k. getD m (place b s k) 0) (r .at) (r .count) j 0 inside) ∙ rw queue (getD-drop t p j 0))
+
 place-at : {l : Ledger} {w : World} → Kept l w → (f : Fifo) (i : ℕ) → taken f l ≤ i → i < length (put f l)
     → getD (w .memory) (place (base f (split w)) (size f (split w)) i) 0 ≡ getD (put f l) i 0
-unfolding waiting
 place-at {l} {w} h f i low high =
-    let t = taken f l in
-    let j = i - t in
-    let s = size f (split w) in
-    let b = base f (split w) in
-    let r = ring f (w .state) in
-    let inside : j < r .count = omega (arith, kept-count h f) in
-    let read : getD (waiting b s r (w .memory)) j 0 ≡ getD (w .memory) (place b s (r .at + j)) 0 = series-getD _ (r .at) (r .count) j 0 inside in
-    let queue : waiting b s r (w .memory) ≡ drop t (put f l) = sym (waits-of f w) ∙ h .queues f in
-    let back : t + j ≡ i = omega arith in
-    let same : (r .at + j) % s ≡ i % s = ap (λ k. (k + j) % s) (h .places f) ∙ mod-add-mod t s j ∙ ap (λ k. k % s) back in
-    ap (λ k. getD (w .memory) (b + k) 0) (sym same) ∙ sym read ∙ ap (λ q. getD q j 0) queue ∙ getD-drop t (put f l) j 0 ∙ ap (λ k. getD (put f l) k 0) back
+    let back : i ≡ taken f l + (i - taken f l) = omega arith in
+    rw back
+    (ring-place (base f (split w)) (size f (split w)) (ring f (w .state)) (w .memory) (put f l) (taken f l) (i - taken f l)
+    (sym (waits-of f w) ∙ h .queues f) (h .places f) (omega (arith, kept-count h f)))
 
 pub places : Places
 places m lent cs f i low high = place-at (kept-run m lent cs) f i low high
