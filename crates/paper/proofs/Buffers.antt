@@ -87,7 +87,10 @@ kept-thrown a words w e = in-front (leb (frontWords a) (length words)) refl e
         rw (drop-append-le (frontWords a) words (w ∷ []) from) (take-append-le (storedWords a) _ _ (simp length-drop (omega arith)))
     in-front false b f =
         let short : length words < frontWords a = leb-false _ _ b in
-        rw (drop-of-length-le (words ++ (w ∷ [])) {i = frontWords a} (simp length-append (omega arith)), drop-of-length-le words {i = frontWords a} (omega arith))
+        rw (
+          drop-of-length-le (words ++ (w ∷ [])) {i = frontWords a} (simp length-append (omega arith)),
+          drop-of-length-le words {i = frontWords a} (omega arith),
+        )
 
 -- ---- the words in TX data
 

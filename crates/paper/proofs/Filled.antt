@@ -37,7 +37,7 @@ module _ (free : Bool) (x : Wrote) (good : GoodWrote x) (ok : x .failed ≡ fals
   unfolding expectOf laidSoFar GoodTaking
   goes-on more =
       rw (let e : left - 1 ≡ hostWords a - length words = omega arith in e)
-      (moves-on free 0 x good (Filling b xs a words) c ok (before, begun, more) lays)
+      (moves-on free x good (Filling b xs a words) c ok (before, begun, more) lays)
 
   -- The buffer is full and not Last: the packet goes on.
   ends-buffer : hostWords a ≤ length words → isLast a ≡ false → Turned free x (takingOn (Between b (xs ++ (record { a = a; words = words } ∷ []))) x)
@@ -45,13 +45,18 @@ module _ (free : Bool) (x : Wrote) (good : GoodWrote x) (ok : x .failed ≡ fals
   unfolding expectOf laidSoFar GoodTaking
   ends-buffer full last =
       rw (← sizesOf-snoc xs (record { a = a; words = words }))
-      (moves-on free 0 x good (Between b (xs ++ (record { a = a; words = words } ∷ []))) c ok
+      (moves-on free x good (Between b (xs ++ (record { a = a; words = words } ∷ []))) c ok
       (record { long = before .long; run = run-snoc (before .run) (fine full) last }, open-snoc xs _) lays)
 
   -- The Last buffer is full: the packet is whole.
   ends-packet : hostWords a ≤ length words → isLast a ≡ true
       → Turned free x
-      (record { packets = x .packets ++ (record { b = b; buffers = xs ++ (record { a = a; words = words } ∷ []) } ∷ []); taking = Nothing; sent = x .sent; failed = x .failed })
+      (record {
+        packets = x .packets ++ (record { b = b; buffers = xs ++ (record { a = a; words = words } ∷ []) } ∷ []);
+        taking = Nothing;
+        sent = x .sent;
+        failed = x .failed;
+      })
       (moves (CommandA Closed) (length (x .packets) - x .sent + 1) c)
   unfolding expectOf laidSoFar GoodTaking
   ends-packet full last =

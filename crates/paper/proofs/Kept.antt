@@ -27,9 +27,10 @@ use Rattle.paper.specs.Memory.{Fifo, TxData, TxStatus, RxData, RxStatus,
 use Rattle.paper.specs.Memory.{ringAfter, memoryAfter, waitingAfter}
 use Rattle.paper.specs.Registers.{goodN, goodMaccr, goodAddrh, goodRegisters, withDrops}
 use Rattle.paper.specs.Fresh.{freshRegisters, freshControl}
-use Rattle.paper.specs.Transmission.{bufferSize, isLast, hostWords, goodA, goodLength, sizesAgree}
+use Rattle.paper.specs.Transmission.{bufferSize, isLast, hostWords, goodA, goodLength}
 use Rattle.paper.specs.Acts.{Act, restarted, does}
 use Rattle.paper.specs.Machine.{World, waits, apply, fresh}
+pub use Rattle.paper.specs.Packets.{Begun, Fine, Ended, GoodWhole}
 use Rattle.paper.specs.Ledger.{Written, Whole, Taking, Nothing, FirstA, Between, LaterA, Filling, Wrote, Ledger, begun, put, taken}
 use Rattle.paper.specs.Ledger.{laidAll, laidSoFar, allWords}
 use Rattle.paper.proofs.Choice.{and-left, and-right, and-three}
@@ -59,30 +60,11 @@ controlOf l = record { registers = withDrops (l .dropped % 2 ^ 32) (l .registers
 
 -- ---- What a port accepts
 
--- a buffer, with a packet open before it or not, after sizes bytes of a packet whose first B is b
-pub record Begun (isOpen : Bool) (b sizes a : ℕ) : Type 0 where
-  pub good : goodA isOpen a ≡ true
-  pub agree : sizesAgree a b sizes ≡ true
-
-pub record Fine (isOpen : Bool) (b sizes : ℕ) (x : Written) : Type 0 where
-  pub begun : Begun isOpen b sizes (x .a)
-  pub full : length (x .words) ≡ hostWords (x .a)
-
 -- buffers of which none is Last
 pub data Run : (isOpen : Bool) (b sizes : ℕ) → List Written → Type 0 where
   none : {isOpen : Bool} {b sizes : ℕ} → Run isOpen b sizes []
   more : {isOpen : Bool} {b sizes : ℕ} {x : Written} {xs : List Written}
       → Fine isOpen b sizes x → isLast (x .a) ≡ false → Run true b (sizes + bufferSize (x .a)) xs → Run isOpen b sizes (x ∷ xs)
-
--- buffers of which the last is Last, and no other
-pub data Ended : (isOpen : Bool) (b sizes : ℕ) → List Written → Type 0 where
-  last : {isOpen : Bool} {b sizes : ℕ} {x : Written} → Fine isOpen b sizes x → isLast (x .a) ≡ true → Ended isOpen b sizes (x ∷ [])
-  more : {isOpen : Bool} {b sizes : ℕ} {x : Written} {xs : List Written}
-      → Fine isOpen b sizes x → isLast (x .a) ≡ false → Ended true b (sizes + bufferSize (x .a)) xs → Ended isOpen b sizes (x ∷ xs)
-
-pub record GoodWhole (p : Whole) : Type 0 where
-  pub long : goodLength (p .b) ≡ true
-  pub ended : Ended false (p .b) 0 (p .buffers)
 
 unfoldable pub AllGood : List Whole → Type 0
 AllGood [] = Unit {0}

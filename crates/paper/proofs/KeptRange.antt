@@ -19,7 +19,8 @@ use Rattle.paper.specs.Registers.{goodN, goodMaccr, goodAddrh, goodRegis
 use Rattle.paper.specs.Transmission.{alignmentField, bufferSize, isFirst, isLast, packetLength, hostWords, goodA, sizesAgree}
 use Rattle.paper.specs.Refusals.{expectInRange, inRange}
 use Rattle.paper.specs.Calls.{Call, isReset}
-use Rattle.paper.specs.Machine.{World, waits, act, decide}
+use Rattle.paper.specs.Acts.{Act}
+use Rattle.paper.specs.Machine.{World, waits, act, decide, step, answer}
 use Rattle.paper.specs.Ledger.{Written, Whole, Taking, Nothing, FirstA, Between, LaterA, Filling, Ledger, laidAll, laidSoFar, put, taken}
 use Rattle.paper.proofs.Choice.{and-three}
 use Rattle.paper.proofs.Entry.{in-range}
@@ -145,3 +146,8 @@ kept-in-range {l} {w} h =
 pub kept-act : {l : Ledger} {w : World} (c : Call) → Kept l w → act c w ≡ decide c (controlOf l) (waits w)
 unfolding act if_then_else_
 kept-act {l} {w} c h = rw (eq-eqb _ _ (h .sound .lent), kept-in-range h, and-false (not (isReset c)), h .control)
+
+-- Each call is answered so.
+pub kept-answer : {l : Ledger} {w : World} (c : Call) → Kept l w → answer c w ≡ decide c (controlOf l) (waits w) .answer
+unfolding step
+kept-answer c h = ap (λ (a : Act). a .answer) (kept-act c h)

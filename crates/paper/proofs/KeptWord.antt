@@ -12,29 +12,27 @@ use native.Mathlib.Omega.{arith}
 use lib.Dec.{ltb}
 use lib.ListN.{length, length-append}
 use borrow.Author.Tests.{ltb-true, not-false}
+use Rattle.paper.specs.declared.Ring.{Ring}
 use Rattle.paper.specs.declared.Refusal.the-variants.{BadCommand, Disagrees}
 use Rattle.paper.specs.declared.Answer.{Answer}
 use Rattle.paper.specs.declared.Answer.the-variants.{Value, Refused}
 use Rattle.paper.specs.Words.{if_then_else_}
-use Rattle.paper.specs.Memory.{Change, keeps, puts}
+use Rattle.paper.specs.Memory.{TxData, TxStatus, RxData, RxStatus, size, Change, keeps, puts}
 use Rattle.paper.specs.Transmission.{hostWords, goodA, goodLength, repeats, sizesAgree, isStored, Turn}
 use Rattle.paper.specs.Transmission.{takesA, takesB, takesPayload, takesExpected, portTakes}
-use Rattle.paper.specs.Ledger.{Whole, Taking, Nothing, FirstA, Between, LaterA, Filling, Wrote, laidSoFar}
-use Rattle.paper.specs.Ledger.{wroteWord, setsError}
-use Rattle.paper.proofs.Choice.{if-cases, and-right}
-use Rattle.paper.proofs.Counts.{hostWords-pos}
-use Rattle.paper.proofs.Kept.{sizesOf, expectOf, portOf, Begun, Run, openBehind, GoodOpen, GoodTaking}
-use Rattle.paper.proofs.Buffers.{kept-stored, kept-thrown, laid-first, laid-begins, laid-grows}
-use Rattle.paper.specs.declared.Ring.{Ring}
-use Rattle.paper.specs.Memory.{TxData, TxStatus, RxData, RxStatus, size}
 use Rattle.paper.specs.Calls.{TxWord}
 use Rattle.paper.specs.Acts.{Act, txWord}
 use Rattle.paper.specs.Machine.{World, waits, levels, decide, apply, step, answer, after}
-use Rattle.paper.specs.Ledger.{Ledger, withWrote, entered, note, put, taken}
+use Rattle.paper.specs.Ledger.{Whole, Taking, Nothing, FirstA, Between, LaterA, Filling, Wrote, Ledger}
+use Rattle.paper.specs.Ledger.{laidSoFar, wroteWord, setsError, withWrote, entered, note, put, taken}
+use Rattle.paper.proofs.Choice.{if-cases, and-right}
+use Rattle.paper.proofs.Counts.{hostWords-pos}
 use Rattle.paper.proofs.Memory.{Fits, waiting-length}
 use Rattle.paper.proofs.Rings.{split, waits-of}
-use Rattle.paper.proofs.Kept.{controlOf, Kept, Follows, Moves, kept-apply}
+use Rattle.paper.proofs.Kept.{sizesOf, expectOf, portOf, controlOf, Begun, Run, openBehind, GoodOpen, GoodTaking}
+use Rattle.paper.proofs.Kept.{Kept, Follows, Moves, kept-apply}
 use Rattle.paper.proofs.KeptRange.{kept-act}
+use Rattle.paper.proofs.Buffers.{kept-stored, kept-thrown, laid-first, laid-begins, laid-grows}
 use Rattle.paper.proofs.Turns.{failing, wroteAfter, GoodWrote, Lays, lays-none, lays-one, Turned, TurnsTo, stands, failed, stored, moves-on}
 use Rattle.paper.proofs.Filled.{payload-taken}
 
@@ -50,7 +48,7 @@ module _ (free : Bool) (w : ℕ) (packets : List Whole) (sent : ℕ) where
   word-turned Nothing good =
       let x = writing packets sent Nothing in
       if-cases (TurnsTo free w x) (goodA false w)
-      (λ g. stored free w x good _ _ (λ f. moves-on free w x good (FirstA w) _ refl g (lays-one w f refl)))
+      (λ g. stored free w x good _ _ (λ f. moves-on free x good (FirstA w) _ refl g (lays-one w f refl)))
       (λ g. failed free w x good BadCommand refl)
   word-turned (FirstA a) good =
       let x = writing packets sent (FirstA a) in
@@ -59,15 +57,16 @@ module _ (free : Bool) (w : ℕ) (packets : List Whole) (sent : ℕ) where
       (λ g. if-cases (TurnsTo free w x) (not (sizesAgree a w 0))
       (λ s. failed free w x good Disagrees refl)
       (λ s.
-      let g-begun : Begun false w 0 a = record { good = good .taking; agree = not-false _ s } in
-      let g-open : GoodOpen w [] = record { long = not-false _ g; run = Run.none } in
+      let begun : Begun false w 0 a = record { good = good .taking; agree = not-false _ s } in
+      let none-before : GoodOpen w [] = record { long = not-false _ g; run = Run.none } in
       stored free w x good _ _ λ f.
       rw (sub-zero, zero-add) at
-      (moves-on free w x good (Filling w [] a []) (puts (w ∷ [])) refl (g-open, g-begun, hostWords-pos false a (good .taking)) (lays-one w f (laid-first w a)))))
+      (moves-on free x good (Filling w [] a []) (puts (w ∷ [])) refl (none-before, begun, hostWords-pos false a (good .taking))
+      (lays-one w f (laid-first w a)))))
   word-turned (Between b xs) good =
       let x = writing packets sent (Between b xs) in
       if-cases (TurnsTo free w x) (goodA true w)
-      (λ g. stored free w x good _ _ (λ f. moves-on free w x good (LaterA b xs w) _ refl (good .taking .0, good .taking .1, g) (lays-one w f refl)))
+      (λ g. stored free w x good _ _ (λ f. moves-on free x good (LaterA b xs w) _ refl (good .taking .0, good .taking .1, g) (lays-one w f refl)))
       (λ g. failed free w x good BadCommand refl)
   word-turned (LaterA b xs a) good =
       let x = writing packets sent (LaterA b xs a) in
@@ -75,7 +74,7 @@ module _ (free : Bool) (w : ℕ) (packets : List Whole) (sent : ℕ) where
       (λ s.
       let begun : Begun (openBehind xs) b (sizesOf xs) a = record { good = rw (good .taking .1) (good .taking .2); agree = and-right (repeats b w) _ s } in
       rw sub-zero at
-      (moves-on free w x good (Filling b xs a []) keeps refl (good .taking .0, begun, hostWords-pos true a (good .taking .2))
+      (moves-on free x good (Filling b xs a []) keeps refl (good .taking .0, begun, hostWords-pos true a (good .taking .2))
       (lays-none (laid-begins b xs a (good .taking .1)))))
       (λ s. failed free w x good Disagrees refl)
   word-turned (Filling b xs a words) good =
@@ -135,6 +134,7 @@ lays-follow (lays-none e) same = (e, same)
 lays-follow (lays-one w f e) same = (e, same)
 
 module _ {l : Ledger} {w : World} (word : ℕ) (h : Kept l w) where
+  -- whether a word of TX data is free, the turn of the port, and what was written after it
   abbrev free : Bool
   free = ltb (length (waits w .txdata)) (size TxData (l .registers .n))
 
@@ -169,7 +169,12 @@ module _ {l : Ledger} {w : World} (word : ℕ) (h : Kept l w) where
         control = rw (turns .port);
         split = refl;
         fits = elim [ TxData ↦ lays-fit (size TxData (split w)) (w .state .txdata) (turns .lays) room | TxStatus ↦ tt | RxData ↦ tt | RxStatus ↦ tt ];
-        follows = elim [ TxData ↦ lays-follow (turns .lays) (ap length (turns .taken)) | TxStatus ↦ (refl, refl) | RxData ↦ (refl, refl) | RxStatus ↦ (refl, refl) ];
+        follows = elim [
+          | TxData ↦ lays-follow (turns .lays) (ap length (turns .taken))
+          | TxStatus ↦ (refl, refl)
+          | RxData ↦ (refl, refl)
+          | RxStatus ↦ (refl, refl)
+        ];
       }
 
 -- After a word written to the port the world is as the ledger says that has noted the word and its answer.

@@ -10,9 +10,13 @@ pub mod Kept
 pub mod Packets
 pub mod KeptRange
 pub mod Buffers
-pub mod Filled
 pub mod Turns
+pub mod Filled
 pub mod KeptWord
+pub mod WordsWritten
+pub mod PacketWritten
+pub mod WordTaken
+pub mod PacketTaken
 pub mod Unsent
 pub mod Fifos
 pub mod ArrivalLines
@@ -26,6 +30,12 @@ pub mod KeptSend
 pub mod NeverLost
 pub mod Steps
 pub mod Promises
+pub mod Alike
+pub mod AlikeNotes
+pub mod AlikeWords
+pub mod AlikeHeads
+pub mod AlikeCalls
+pub mod Demand3
 pub mod Compute
 pub mod Samples
 pub mod Vectors

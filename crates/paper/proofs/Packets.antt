@@ -20,7 +20,8 @@ use Rattle.paper.specs.Transmission.{offset, bufferSize, hostWords, fron
 use Rattle.paper.specs.Sending.{Buffer, Found, behind, fromA, buffersFrom, headOf, bufferBytes, sentBytes, freed}
 use Rattle.paper.specs.Ledger.{Written, Whole, keptOf, laidLater, laidFirst, laid, writtenBytes, buffersBytes, packetBytes}
 use Rattle.paper.proofs.Counts.{stored-within, storedWords-pos, bufferBytes-length}
-use Rattle.paper.proofs.Kept.{Fine, Ended, last, more, GoodWhole}
+use Rattle.paper.specs.Packets.{last, more}
+use Rattle.paper.proofs.Kept.{Fine, Ended, GoodWhole}
 
 -- a written buffer as it lies in TX data
 abbrev pub bufferOf : Written → Buffer

@@ -1,5 +1,5 @@
 -- The promises of specs/Promises, proved of every run. Each is what the invariant `Kept` says of the world that the run has reached.
---   unique, never-lost, places, whole-or-nothing, dropped-exactly, reads-back, levels, sent-as-written
+--   unique, never-lost, places, whole-or-nothing, dropped-exactly, reads-back, levels, sent-as-written, packet-accepted
 -- Assumes nothing.
 use mathlib.Core.Path.{_≡_, refl, sym, ap, _∙_}
 use mathlib.Core.Logic.{_≢_}
@@ -12,12 +12,12 @@ use lib.ListN.{length, getD, drop}
 use lib.Seq.{getD-drop}
 use Rattle.paper.specs.declared.Ring.{Ring}
 use Rattle.paper.specs.declared.Answer.{Answer}
-use Rattle.paper.specs.Memory.{Fifo, size, base, place, waiting}
+use Rattle.paper.specs.Memory.{Fifo, size, base, place, waiting, Four}
 use Rattle.paper.specs.Calls.{Call}
 use Rattle.paper.specs.Machine.{World, answer, answers, worldAfter}
 use Rattle.paper.specs.Ledger.{Ledger, noted, put, taken}
 use Rattle.paper.specs.Runs.{Lent, reached, ledgerOf}
-use Rattle.paper.specs.Promises.{Told, Unique, NeverLost, Places, WholeOrNothing, DroppedExactly, ReadsBack, Levels, SentAsWritten}
+use Rattle.paper.specs.Promises.{Told, Unique, NeverLost, Places, WholeOrNothing, DroppedExactly, ReadsBack, Levels, SentAsWritten, PacketAccepted}
 use Rattle.paper.proofs.Words.{series-getD}
 use Rattle.paper.proofs.Answers.{said-one-to-one}
 use Rattle.paper.proofs.Rings.{ring, split, waits-of}
@@ -26,6 +26,8 @@ use Rattle.paper.proofs.KeptSend.{sends-of}
 use Rattle.paper.proofs.NeverLost.{isEntry, never-entry}
 use Rattle.paper.proofs.PromisesReceive.{levels-of, reads-of, whole-or-nothing-at, dropped-exactly-at}
 use Rattle.paper.proofs.Steps.{kept-step}
+use Rattle.paper.specs.declared.Control.{Control}
+use Rattle.paper.proofs.PacketTaken.{packet-taken}
 
 -- Two results that meet a call's contract are equal.
 pub unique : Unique
@@ -91,3 +93,9 @@ levels m lent cs = levels-of (kept-run m lent cs)
 -- What is sent is what the host wrote.
 pub sent-as-written : SentAsWritten
 sent-as-written m lent cs outcome out = sends-of (kept-run m lent cs) outcome out
+
+-- A packet that keeps the rules is accepted whole.
+pub packet-accepted : PacketAccepted
+packet-accepted p w good lent range expects clear room =
+    let t = packet-taken p w good lent range expects clear room in
+    record { answered = t .answered; port = ap (λ (k : Control). k .port) (t .control); words = ap (λ (q : Four (List ℕ)). q .txdata) (t .waiting) }

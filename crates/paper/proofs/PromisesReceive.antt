@@ -19,7 +19,7 @@ use Rattle.paper.specs.declared.Arrival.the-variants.{Dropped, Stored}
 use Rattle.paper.specs.Memory.{Fifo, TxData, TxStatus, RxData, RxStatus, Four, Change, size, of, waitingAfter}
 use Rattle.paper.specs.Status.{look}
 use Rattle.paper.specs.Arrivals.{dataWords, arrival, arrivalAnswer}
-use Rattle.paper.specs.Calls.{Call, Arrive, Split, RxFifoInf, TxFifoInf, RxDrop, RxDataRead, RxStatusPop, RxStatusPeek, TxStatusPop, TxStatusPeek}
+use Rattle.paper.specs.Calls.{Arrive, Split, RxFifoInf, TxFifoInf, RxDrop, RxDataRead, RxStatusPop, RxStatusPeek, TxStatusPop, TxStatusPeek}
 use Rattle.paper.specs.Acts.{arrives, oldest}
 use Rattle.paper.specs.Machine.{World, waits, decide, apply, act, step, answer, after}
 use Rattle.paper.specs.Ledger.{Ledger, put, taken}
@@ -28,17 +28,12 @@ use Rattle.paper.specs.Promises.{Keeps, Leaves, ReadsOf, LevelsOf, held}
 use Rattle.paper.proofs.Rings.{split, apply-waits}
 use Rattle.paper.proofs.Answers.{arrival-one-to-one}
 use Rattle.paper.proofs.ArrivalLines.{SaysAt, arrival-says, arrival-drops, arrives-answer, arrives-split, arrives-still, arrives-fits}
-use Rattle.paper.proofs.Kept.{controlOf, Kept}
-use Rattle.paper.proofs.KeptRange.{kept-act}
+use Rattle.paper.proofs.Kept.{Kept}
+use Rattle.paper.proofs.KeptRange.{kept-act, kept-answer}
 
 -- As many words wait in a FIFO as were put and not taken.
 kept-held : {l : Ledger} {w : World} → Kept l w → (f : Fifo) → length (of (waits w) f) ≡ held f l
 kept-held {l} h f = ap length (h .queues f) ∙ length-drop (taken f l) (put f l)
-
--- A call is answered as is decided by what the ledger implies.
-kept-answer : {l : Ledger} {w : World} (c : Call) → Kept l w → answer c w ≡ decide c (controlOf l) (waits w) .answer
-unfolding step
-kept-answer c h = ap (λ a. a .answer) (kept-act c h)
 
 -- Levels, RX_DROP and n are what the ledger implies.
 pub levels-of : {l : Ledger} {w : World} → Kept l w → LevelsOf w l

@@ -80,6 +80,7 @@ module _ (free : Bool) (w : ℕ) (x : Wrote) (good : GoodWrote x) where
   pub stored : (e : Expect) (whole : ℕ) → (free ≡ true → TurnsTo free w x (moves e whole (puts (w ∷ [])))) → TurnsTo free w x (stores free (portOf x) e whole w)
   stored e whole h = if-cases (TurnsTo free w x) free h (λ f. failed DataFull refl)
 
+module _ (free : Bool) (x : Wrote) (good : GoodWrote x) where
   -- A word that makes no packet whole moves the packet being written on.
   pub moves-on : (t : Taking) (c : Change) → x .failed ≡ false → GoodTaking t → Lays free c (laidSoFar (x .taking)) (laidSoFar t)
       → Turned free x (takingOn t x) (moves (expectOf t) (length (x .packets) - x .sent) c)

@@ -14,6 +14,7 @@ pub mod Calls
 pub mod Acts
 pub mod Machine
 pub mod Ledger
+pub mod Packets
 pub mod Runs
 pub mod Promises
 pub mod Twins

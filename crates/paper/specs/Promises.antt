@@ -1,13 +1,13 @@
 -- What holds of every run from the fresh state, over any lent memory, with memory written by the calls only. Each promise is a type; proofs/Promises proves it.
---   Unique, NeverLost, KeepsRanges, Places, WholeOrNothing, DroppedExactly, ReadsBack, Levels, SentAsWritten
+--   Unique, NeverLost, KeepsRanges, Places, WholeOrNothing, DroppedExactly, ReadsBack, Levels, SentAsWritten, PacketAccepted
 -- Demand 3 stands in Twins.
 -- Assumes nothing.
 use mathlib.Core.Path.{_≡_}
 use mathlib.Core.Logic.{_≢_, _↔_}
-use mathlib.Core.Bool.{true, not}
-use mathlib.Core.List.{List, [], _∷_, _++_}
-use Prim.Native.Nat.{ℕ, _-_, _%_, _^_, _≤_, _<_}
-use lib.ListN.{length, drop, getD}
+use mathlib.Core.Bool.{true, not, false}
+use mathlib.Core.List.{List, [], _∷_, _++_, map}
+use Prim.Native.Nat.{ℕ, _-_, _%_, _^_, _≤_, _<_, _+_}
+use lib.ListN.{length, drop, getD, replicate}
 use Rattle.paper.specs.declared.Said.{Said}
 use Rattle.paper.specs.declared.State.{State}
 use Rattle.paper.specs.declared.Refusal.the-variants.{MemoryLength, OutOfRange}
@@ -20,10 +20,13 @@ use Rattle.paper.specs.Arrivals.{arrivalAnswer, dataWords}
 use Rattle.paper.specs.declared.Arrival.the-variants.{Dropped, Stored}
 use Rattle.paper.specs.Sending.{frameOf, outAfter}
 use Rattle.paper.specs.Refusals.{said, inRange}
-use Rattle.paper.specs.Calls.{Call, Split, RxFifoInf, TxFifoInf, RxDrop, Arrive, RxDataRead, RxStatusPop, RxStatusPeek, Send, TxStatusPop, TxStatusPeek}
-use Rattle.paper.specs.Machine.{World, Result, waits, step, after, answer}
-use Rattle.paper.specs.Ledger.{Ledger, Whole, packetBytes, put, taken}
+use Rattle.paper.specs.Calls.{Call, Split, RxFifoInf, TxFifoInf, RxDrop, Arrive, RxDataRead, RxStatusPop, RxStatusPeek, Send, TxStatusPop, TxStatusPeek, TxWord}
+use Rattle.paper.specs.Machine.{World, Result, waits, step, after, answer, answers, worldAfter}
+use Rattle.paper.specs.Ledger.{Ledger, Whole, packetBytes, put, taken, laid}
 use Rattle.paper.specs.Runs.{Lent, reached, ledgerOf, Reading, nextOf, Due, lacksRoom, sending}
+use Rattle.paper.specs.declared.Packet.the-variants.{Closed}
+use Rattle.paper.specs.declared.Expect.the-variants.{CommandA}
+use Rattle.paper.specs.Packets.{GoodWhole, hostWrites}
 
 -- ---- Do answer, state, all 4,096 words and the out buffer follow uniquely from the inputs?
 -- Yes. A result is what a call's contract speaks of: the refusal number and value, the state, the memory and the out buffer.
@@ -132,3 +135,19 @@ pub record SendsOf (w : World) (l : Ledger) (outcome : ℕ) (out : List ℕ) : T
 
 abbrev pub SentAsWritten : Type 0
 SentAsWritten = (m : List ℕ) → Lent m → (cs : List Call) (outcome : ℕ) (out : List ℕ) → SendsOf (reached cs m) (ledgerOf cs m) outcome out
+
+-- Is every packet that keeps the rules accepted?
+-- Yes. Its words written to a port that expects an A with no packet open, no error and enough room are all accepted, and the packet is whole: the port expects an A
+-- again, one more packet is whole, and what 01 stores of it waits behind what waited.
+-- In every world in range, reached or not. Shuts out: a port that refuses always.
+
+pub record Accepts (p : Whole) (w : World) : Type 0 where
+  pub answered : answers (map TxWord (hostWrites p)) w ≡ replicate (length (hostWrites p)) (Value 0)
+  pub port : worldAfter (map TxWord (hostWrites p)) w .state .control .port ≡ record { expect = CommandA Closed; failed = false; whole = w .state .control .port .whole + 1 }
+  pub words : waits (worldAfter (map TxWord (hostWrites p)) w) .txdata ≡ waits w .txdata ++ laid p
+
+abbrev pub PacketAccepted : Type 0
+PacketAccepted = (p : Whole) (w : World) → GoodWhole p → Lent (w .memory) → inRange (w .state) ≡ true
+    → w .state .control .port .expect ≡ CommandA Closed → w .state .control .port .failed ≡ false
+    → length (waits w .txdata) + length (laid p) ≤ size TxData (w .state .control .registers .n)
+    → Accepts p w
