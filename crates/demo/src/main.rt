@@ -1,8 +1,8 @@
 // Shows the fresh state and the receive filter's 32 settings, as the proved code gives them.
 use libc::STDOUT_FILENO;
-use paper::Registers;
 use paper::Rule;
 use paper::Setting;
+use paper::State;
 
 fn text(s: &[u8]) {
     io::write_all(STDOUT_FILENO, s);
@@ -46,7 +46,9 @@ fn settings() {
 }
 
 fn main() {
-    let r = Registers::fresh();
+    let s = State::fresh();
+    let k = s.control;
+    let r = k.registers;
     register(b"TX_FIF_SZ ", r.n);
     register(b"MAC_CR    ", r.maccr);
     register(b"ADDRH     ", r.addrh);

@@ -1,7 +1,7 @@
 // The types of paper 01, the register defaults and the fresh state.
 // What they mean is said in specs/; the functions here are proved equal to it.
 ghost use mathlib.Core.Path.{_≡_};
-ghost use Rattle.paper.specs.Fresh.{freshRegisters, freshPort, freshState};
+ghost use Rattle.paper.specs.Fresh.{freshState};
 
 // The registers: n is TX_FIF_SZ, drops is RX_DROP, the others are those of the MAC.
 pub struct Registers {
@@ -123,34 +123,6 @@ impl Registers {
     pub const ADDRL: u32 = 0xFFFF_FFFF;
 
     pub const SPLIT: u32 = 5;
-
-    // The register defaults of the fresh state.
-    pub fn fresh() -> Self
-        ensures { λ r. ⌜ r ≡ freshRegisters ⌝ }
-    {
-        Self {
-            n: Registers::SPLIT,
-            maccr: Registers::MAC_CR,
-            addrh: Registers::ADDRH,
-            addrl: Registers::ADDRL,
-            hashh: 0,
-            hashl: 0,
-            drops: 0,
-        }
-    }
-}
-
-impl Port {
-    // No transmit error, no packet open or whole, the port expecting an A.
-    pub fn fresh() -> Self
-        ensures { λ r. ⌜ r ≡ freshPort ⌝ }
-    {
-        Self {
-            expect: Expect::CommandA(Packet::Closed),
-            failed: false,
-            whole: 0,
-        }
-    }
 }
 
 impl State {
@@ -158,9 +130,23 @@ impl State {
     pub fn fresh() -> Self
         ensures { λ r. ⌜ r ≡ freshState ⌝ }
     {
+        let registers = Registers {
+            n: Registers::SPLIT,
+            maccr: Registers::MAC_CR,
+            addrh: Registers::ADDRH,
+            addrl: Registers::ADDRL,
+            hashh: 0,
+            hashl: 0,
+            drops: 0,
+        };
+        let port = Port {
+            expect: Expect::CommandA(Packet::Closed),
+            failed: false,
+            whole: 0,
+        };
         let control = Control {
-            registers: Registers::fresh(),
-            port: Port::fresh(),
+            registers: registers,
+            port: port,
         };
         let empty = Ring { at: 0, count: 0 };
         Self {

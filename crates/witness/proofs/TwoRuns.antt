@@ -48,7 +48,7 @@ other =
     opening ++ (TxWord 0x2222_2222 ∷ Send 0 lentOut ∷ TxStatusPop ∷ Arrive (short 2) 0 ∷ reading)
     ++ (Arrive large 0 ∷ Arrive (take64 2) 0 ∷ RxFifoInf ∷ [])
 
-abbrev memory : (w : ℕ) → List ℕ
+abbrev memory : ℕ → List ℕ
 memory w = replicate wordsLent w
 
 -- The two runs are such as demand 3 speaks of, over different memories.
