@@ -11,6 +11,7 @@ use lib.ListN.{length, drop, getD, replicate}
 use Rattle.paper.specs.declared.Said.{Said}
 use Rattle.paper.specs.declared.State.{State}
 use Rattle.paper.specs.declared.Refusal.the-variants.{MemoryLength, OutOfRange}
+use Rattle.paper.specs.declared.Answer.{Answer}
 use Rattle.paper.specs.declared.Answer.the-variants.{Value, Refused}
 use Rattle.paper.specs.Memory.{Fifo, size, base, place, TxData, TxStatus, RxData, RxStatus}
 use Rattle.paper.specs.Registers.{rxFifoInf, txFifoInf}
@@ -40,6 +41,13 @@ pub record Told : Type 0 where
 
 abbrev pub tells : Result → Told
 tells r = record { answer = said (r .answer); state = r .world .state; memory = r .world .memory; out = r .out }
+
+-- the two sides of a call's contract: what the code answers and leaves, where it lends no out buffer; and what `step` says
+abbrev pub told : Answer → State → List ℕ → Told
+told a s m = record { answer = said a; state = s; memory = m; out = [] }
+
+abbrev pub toldOf : Call → State → List ℕ → Told
+toldOf c s m = tells (step c (record { state = s; memory = m }))
 
 abbrev pub Meets : Call → World → Result → Type 0
 Meets c w r = tells r ≡ tells (step c w)

@@ -109,6 +109,18 @@ pub enum Arrival {
     Stored,
 }
 
+// What a call answers, with the state after it.
+pub struct Reply {
+    pub answer: Answer,
+    pub state: State,
+}
+
+// What an arriving frame is answered, with the state after it.
+pub struct Arrived {
+    pub answer: Arrival,
+    pub state: State,
+}
+
 // An answer in numbers: the refusal's number, 0 for none, and the value.
 pub struct Said {
     pub refusal: u32,
