@@ -45,7 +45,7 @@ ready-sound w lent r =
     }
 
 -- In range, with 4,096 words lent, a call does what is decided.
-in-range-act : (c : Call) (w : World) → Lent (w .memory) → inRange (w .state) ≡ true → act c w ≡ decide c (w .state .control) (waits w)
+pub in-range-act : (c : Call) (w : World) → Lent (w .memory) → inRange (w .state) ≡ true → act c w ≡ decide c (w .state .control) (waits w)
 unfolding act if_then_else_
 in-range-act c w lent e = rw (eq-eqb _ _ lent, e, and-false)
 

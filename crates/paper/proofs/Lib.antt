@@ -30,6 +30,7 @@ pub mod KeptSend
 pub mod NeverLost
 pub mod Steps
 pub mod Promises
+pub mod Contracts
 pub mod Alike
 pub mod AlikeNotes
 pub mod AlikeWords
