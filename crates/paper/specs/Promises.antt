@@ -31,7 +31,7 @@ use Rattle.paper.specs.Packets.{GoodWhole, hostWrites}
 
 -- ---- Do answer, state, all 4,096 words and the out buffer follow uniquely from the inputs?
 -- Yes. A result is what a call's contract speaks of: the refusal number and value, the state, the memory and the out buffer.
--- In every world, reached or not, for every call and refusal.
+-- In every world, reached or not, for every call and refusal. Shuts out: a contract that two different models meet.
 
 pub record Told : Type 0 where
   pub answer : Said
@@ -57,19 +57,20 @@ Unique = (c : Call) (w : World) (r r′ : Result) → Meets c w r → Meets c w 
 
 -- ---- Can the model lose its way, and answer 14 or 15 though the caller did nothing wrong?
 -- No. From the fresh state over any 4,096 words no call of any run answers 15, by ranges or by the head test, and none answers 14.
--- Shuts out: a model that refuses always.
+-- Shuts out: refuses_always, head_test_reads_payload.
 
 abbrev pub NeverLost : Type 0
 NeverLost = (m : List ℕ) → Lent m → (cs : List Call) (c : Call)
     → (answer c (reached cs m) ≢ Refused OutOfRange) × (answer c (reached cs m) ≢ Refused MemoryLength)
 
--- Arrivals, reads, pops and peeks keep the ranges on any state in range, reached or not.
+-- Can an arrival, a read, a pop or a peek bring a state out of its ranges?
+-- No, from any state in range, reached or not. Shuts out: stored_with_no_free_status.
 abbrev pub KeepsRanges : Type 0
 KeepsRanges = (c : Call) → Reading c → (w : World) → Lent (w .memory) → inRange (w .state) ≡ true → inRange (after c w .state) ≡ true
 
 -- ---- Where does a word go?
 -- The i-th word put into a FIFO since its restart, counting from 0, lies at place i mod size of that FIFO, for as long as it waits.
--- In every run, for each of the four FIFOs. The words put, and how many of them were taken, are those that the ledger gives.
+-- In every run, for each of the four FIFOs. The words put, and how many of them were taken, are those that the ledger gives. Shuts out: keeps_nothing.
 
 abbrev pub Places : Type 0
 Places = (m : List ℕ) → Lent m → (cs : List Call) (f : Fifo) (i : ℕ)
@@ -79,7 +80,7 @@ Places = (m : List ℕ) → Lent m → (cs : List Call) (f : Fifo) (i : ℕ)
 
 -- ---- When receive memory is full, does the host find a whole frame with its status, or nothing at all?
 -- An arrival answered Stored has put exactly its data words and exactly one status behind what waited; any other arrival leaves both receive FIFOs as they were.
--- In every run. Shuts out: a frame stored in part, a status without its data, a model that keeps nothing.
+-- In every run. Shuts out: stored_in_part, status_without_data, keeps_nothing.
 
 pub record Keeps (frame : List ℕ) (flags : ℕ) (w : World) : Type 0 where
   pub words : waits (after (Arrive frame flags) w) .rxdata ≡ waits w .rxdata ++ dataWords frame
@@ -95,16 +96,18 @@ WholeOrNothing = (m : List ℕ) → Lent m → (cs : List Call) (frame : List �
     → (answer (Arrive frame flags) (reached cs m) ≡ arrivalAnswer Stored → Keeps frame flags (reached cs m))
     × (answer (Arrive frame flags) (reached cs m) ≢ arrivalAnswer Stored → Leaves frame flags (reached cs m))
 
--- Dropped is answered exactly when lines 1 to 5 do not answer and the free data words are fewer than L/4 rounded up or no status is free.
--- Shuts out: a model that drops always, or never.
+-- When is a frame dropped?
+-- Exactly when lines 1 to 5 do not answer and the free data words are fewer than L/4 rounded up or no status is free.
+-- In every run. Shuts out: drops_always, stored_with_no_free_status.
 abbrev pub DroppedExactly : Type 0
 DroppedExactly = (m : List ℕ) → Lent m → (cs : List Call) (frame : List ℕ) (flags : ℕ)
     → (answer (Arrive frame flags) (reached cs m) ≡ arrivalAnswer Dropped)
     ↔ (Due (reached cs m .state .control .registers) (look frame flags)
     × (lacksRoom (reached cs m .state .control .registers .n) (length (waits (reached cs m) .rxdata)) (length (waits (reached cs m) .rxstatus)) (length frame) ≡ true))
 
--- The host's reads return, word for word and status for status, in order, the frames stored since the restart; and so for the TX statuses.
--- Shuts out: a model that posts one fixed status, keeps nothing, or stores the first frame and pretends afterwards.
+-- Does the host read back what was stored?
+-- Its reads return, word for word and status for status, in order, the frames stored since the restart; and so for the TX statuses.
+-- In every run. Shuts out: one_fixed_status, keeps_nothing, pretends_after_the_first.
 pub record ReadsOf (w : World) (l : Ledger) : Type 0 where
   pub word : answer RxDataRead w ≡ nextOf (drop (taken RxData l) (put RxData l))
   pub pop : answer RxStatusPop w ≡ nextOf (drop (taken RxStatus l) (put RxStatus l))
@@ -116,8 +119,8 @@ abbrev pub ReadsBack : Type 0
 ReadsBack = (m : List ℕ) → Lent m → (cs : List Call) → ReadsOf (reached cs m) (ledgerOf cs m)
 
 -- ---- Are levels and RX_DROP invented?
--- No. In every run they are what the calls and answers so far imply: words put less words taken, and the number of Dropped since RX_DROP was last read or
--- reset, mod 2^32.
+-- No. They are what the calls and answers so far imply: words put less words taken, and the number of Dropped since RX_DROP was last read or reset, mod 2^32.
+-- In every run. Shuts out: level_of_content, drops_count_filtered, drops_stay_at_the_last.
 
 abbrev pub held : Fifo → Ledger → ℕ
 held f l = length (put f l) - taken f l
@@ -134,7 +137,7 @@ Levels = (m : List ℕ) → Lent m → (cs : List Call) → LevelsOf (reached cs
 -- ---- Is what is sent what the host wrote?
 -- Yes. The k-th frame sent is that of the k-th packet made whole since the restart: its bytes are those that the host wrote, padded and with the FCS that 01
 -- says; sending is refused for 01's reasons alone, and leaves the rest of the out buffer.
--- In every run. Shuts out: sending the newest packet.
+-- In every run. Shuts out: newest_sent, head_test_reads_payload.
 
 pub record SendsOf (w : World) (l : Ledger) (outcome : ℕ) (out : List ℕ) : Type 0 where
   pub answers : answer (Send outcome out) w ≡ sending (l .registers) outcome (length out) (held TxStatus l) (drop (l .wrote .sent) (l .wrote .packets))
@@ -147,7 +150,7 @@ SentAsWritten = (m : List ℕ) → Lent m → (cs : List Call) (outcome : ℕ) (
 -- Is every packet that keeps the rules accepted?
 -- Yes. Its words written to a port that expects an A with no packet open, no error and enough room are all accepted, and the packet is whole: the port expects an A
 -- again, one more packet is whole, and what 01 stores of it waits behind what waited.
--- In every world in range, reached or not. Shuts out: a port that refuses always.
+-- In every world in range, reached or not. Shuts out: refuses_always, later_b_charged, nine_for_a_word_thrown_away.
 
 pub record Accepts (p : Whole) (w : World) : Type 0 where
   pub answered : answers (map TxWord (hostWrites p)) w ≡ replicate (length (hostWrites p)) (Value 0)

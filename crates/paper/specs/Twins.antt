@@ -107,7 +107,7 @@ Agrees l l′ (right {w} {w′} {f} {flags} q t) = Agrees l (note (Arrive f flag
 -- No. Two runs from the fresh state over any memories, with the same calls but for transmit payload words, bytes after the fourteenth of an arriving frame
 -- (length, flags and checksum verdict agreeing) and further arrivals that a run ignores, discards or filters: all answers agree but receive data words, and those agree for
 -- frames with equal bytes. The answer to sending is the frame's length, so frames sent have equal lengths.
--- All calls, resets, splits, dumps, refusals and transmit errors included. Shuts out: a status, level, counter or head test that looks at content.
+-- All calls, resets, splits, dumps, refusals and transmit errors included. Shuts out: status_sees_content, level_of_content, head_test_reads_payload.
 
 abbrev pub Demand3 : Type 0
 Demand3 = (m m′ : List ℕ) → Lent m → Lent m′ → (cs cs′ : List Call) (t : Twins (fresh m) (fresh m′) cs cs′) → Agrees begun begun t
@@ -138,7 +138,9 @@ unfoldable pub hostLog : List Call → World → List Answer
 hostLog [] w = []
 hostLog (c ∷ cs) w = logged c (answer c w) ++ hostLog cs (after c w)
 
+-- What does that mean for the support log?
 -- Whatever is computed from the host's answers other than receive data words is the same in both runs.
+-- For the runs of demand 3. Shuts out what demand 3 does.
 abbrev pub SupportLog : Type 1
 SupportLog = (m m′ : List ℕ) → Lent m → Lent m′ → (cs cs′ : List Call) → Twins (fresh m) (fresh m′) cs cs′
     → (A : Type 0) (compute : List Answer → A) → compute (hostLog cs (fresh m)) ≡ compute (hostLog cs′ (fresh m′))
