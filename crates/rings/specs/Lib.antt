@@ -1,0 +1,2 @@
+-- What the functions of this crate ask and leave, in the names of `paper`.
+pub mod Rings

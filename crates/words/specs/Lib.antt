@@ -1,0 +1,2 @@
+-- Definitions that the contracts of words cite beside those of paper.
+pub mod Status
