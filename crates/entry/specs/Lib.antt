@@ -1,0 +1,2 @@
+-- Definitions that the contracts of entry, and of the calls behind it, cite beside those of paper.
+pub mod Entry
