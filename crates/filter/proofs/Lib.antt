@@ -1,0 +1,2 @@
+-- Laws that the proofs of filter cite.
+pub mod Address

@@ -1,0 +1,2 @@
+-- What the contracts of filter cite beside the definitions of paper.
+pub mod Address
