@@ -1,0 +1,2 @@
+-- What each register call's contract comes to, case by case.
+pub mod Calls
