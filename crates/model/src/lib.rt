@@ -10,6 +10,7 @@ use paper::Reply;
 use paper::State;
 ghost use mathlib.Core.Path.{_≡_};
 ghost use Rattle.paper.specs.Arrivals.{arrivalAnswer};
+ghost use Rattle.paper.specs.Calls.{Reset, MacWrite, MacRead, SetSplit, Split, RxFifoInf, TxFifoInf, RxDrop, DumpTxData, DumpTxStatus, DumpRx};
 ghost use Rattle.paper.specs.Calls.{Arrive, RxDataRead, RxStatusPop, RxStatusPeek, TxStatusPop, TxStatusPeek};
 ghost use Rattle.paper.specs.Promises.{told, toldOf};
 
@@ -20,6 +21,116 @@ fn refused(s: State, k: Refusal) -> Reply
     Reply {
         answer: Answer::Refused(k),
         state: s,
+    }
+}
+
+// Resets the model to the fresh state, whatever the state was. Refuses 14 only.
+pub fn reset(s: State, mem: &[u32]) -> Reply
+    ensures { λ r. ⌜ told (r .answer) (r .state) (now (mem .entry)) ≡ toldOf Reset s (now (mem .entry)) ⌝ }
+{
+    if mem.len() != 4096 {
+        return refused(s, Refusal::MemoryLength);
+    }
+    registers::reset(s, mem)
+}
+
+// Writes a MAC register, 1 to 5. Refuses 3 (no such register), 4 (bad value).
+pub fn mac_write(s: State, mem: &[u32], register: u32, value: u32) -> Reply
+    ensures { λ r. ⌜ told (r .answer) (r .state) (now (mem .entry)) ≡ toldOf (MacWrite register value) s (now (mem .entry)) ⌝ }
+{
+    match entry::enter(s, mem.len()) {
+        Entry::Shut(k) => refused(s, k),
+        Entry::Clear => registers::mac_write(s, mem, register, value),
+    }
+}
+
+// Reads a MAC register, 1 to 5. Refuses 3 (no such register).
+pub fn mac_read(s: State, mem: &[u32], register: u32) -> Reply
+    ensures { λ r. ⌜ told (r .answer) (r .state) (now (mem .entry)) ≡ toldOf (MacRead register) s (now (mem .entry)) ⌝ }
+{
+    match entry::enter(s, mem.len()) {
+        Entry::Shut(k) => refused(s, k),
+        Entry::Clear => registers::mac_read(s, mem, register),
+    }
+}
+
+// Sets TX_FIF_SZ and restarts all FIFOs. Refuses 4 (n outside 2 to 14), 5 (not allowed now).
+pub fn set_split(s: State, mem: &[u32], n: u32) -> Reply
+    ensures { λ r. ⌜ told (r .answer) (r .state) (now (mem .entry)) ≡ toldOf (SetSplit n) s (now (mem .entry)) ⌝ }
+{
+    match entry::enter(s, mem.len()) {
+        Entry::Shut(k) => refused(s, k),
+        Entry::Clear => registers::set_split(s, mem, n),
+    }
+}
+
+// Answers n, TX_FIF_SZ.
+pub fn split(s: State, mem: &[u32]) -> Reply
+    ensures { λ r. ⌜ told (r .answer) (r .state) (now (mem .entry)) ≡ toldOf Split s (now (mem .entry)) ⌝ }
+{
+    match entry::enter(s, mem.len()) {
+        Entry::Shut(k) => refused(s, k),
+        Entry::Clear => registers::split(s, mem),
+    }
+}
+
+// Answers RX_FIFO_INF: statuses waiting in bits 23 to 16, data bytes waiting in 15 to 0.
+pub fn rx_fifo_inf(s: State, mem: &[u32]) -> Reply
+    ensures { λ r. ⌜ told (r .answer) (r .state) (now (mem .entry)) ≡ toldOf RxFifoInf s (now (mem .entry)) ⌝ }
+{
+    match entry::enter(s, mem.len()) {
+        Entry::Shut(k) => refused(s, k),
+        Entry::Clear => registers::rx_fifo_inf(s, mem),
+    }
+}
+
+// Answers TX_FIFO_INF: statuses waiting in bits 23 to 16, free data bytes in 15 to 0.
+pub fn tx_fifo_inf(s: State, mem: &[u32]) -> Reply
+    ensures { λ r. ⌜ told (r .answer) (r .state) (now (mem .entry)) ≡ toldOf TxFifoInf s (now (mem .entry)) ⌝ }
+{
+    match entry::enter(s, mem.len()) {
+        Entry::Shut(k) => refused(s, k),
+        Entry::Clear => registers::tx_fifo_inf(s, mem),
+    }
+}
+
+// Answers RX_DROP, the frames dropped since it was last read or reset, and clears it.
+pub fn rx_drop(s: State, mem: &[u32]) -> Reply
+    ensures { λ r. ⌜ told (r .answer) (r .state) (now (mem .entry)) ≡ toldOf RxDrop s (now (mem .entry)) ⌝ }
+{
+    match entry::enter(s, mem.len()) {
+        Entry::Shut(k) => refused(s, k),
+        Entry::Clear => registers::rx_drop(s, mem),
+    }
+}
+
+// Restarts TX data and forgets every packet and the transmit error. Refuses 5 (TXEN set).
+pub fn dump_tx_data(s: State, mem: &[u32]) -> Reply
+    ensures { λ r. ⌜ told (r .answer) (r .state) (now (mem .entry)) ≡ toldOf DumpTxData s (now (mem .entry)) ⌝ }
+{
+    match entry::enter(s, mem.len()) {
+        Entry::Shut(k) => refused(s, k),
+        Entry::Clear => registers::dump_tx_data(s, mem),
+    }
+}
+
+// Restarts TX status.
+pub fn dump_tx_status(s: State, mem: &[u32]) -> Reply
+    ensures { λ r. ⌜ told (r .answer) (r .state) (now (mem .entry)) ≡ toldOf DumpTxStatus s (now (mem .entry)) ⌝ }
+{
+    match entry::enter(s, mem.len()) {
+        Entry::Shut(k) => refused(s, k),
+        Entry::Clear => registers::dump_tx_status(s, mem),
+    }
+}
+
+// Restarts RX data and RX status. Refuses 5 (RXEN set).
+pub fn dump_rx(s: State, mem: &[u32]) -> Reply
+    ensures { λ r. ⌜ told (r .answer) (r .state) (now (mem .entry)) ≡ toldOf DumpRx s (now (mem .entry)) ⌝ }
+{
+    match entry::enter(s, mem.len()) {
+        Entry::Shut(k) => refused(s, k),
+        Entry::Clear => registers::dump_rx(s, mem),
     }
 }
 
