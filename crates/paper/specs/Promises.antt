@@ -80,7 +80,7 @@ Places = (m : List ℕ) → Lent m → (cs : List Call) (f : Fifo) (i : ℕ)
 
 -- ---- When receive memory is full, does the host find a whole frame with its status, or nothing at all?
 -- An arrival answered Stored has put exactly its data words and exactly one status behind what waited; any other arrival leaves both receive FIFOs as they were.
--- In every run. Shuts out: stored_in_part, status_without_data, keeps_nothing.
+-- In every run. Shuts out: stored_in_part, status_posted_before_the_room_test, keeps_nothing.
 
 pub record Keeps (frame : List ℕ) (flags : ℕ) (w : World) : Type 0 where
   pub words : waits (after (Arrive frame flags) w) .rxdata ≡ waits w .rxdata ++ dataWords frame
