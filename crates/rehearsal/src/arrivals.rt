@@ -41,16 +41,21 @@ pub fn lengths(mem: &mut Memory, space: &mut Space) {
     lengths_with(0, mem, space);
 }
 
-// Each flag bit alone.
+// Flag bit i alone.
+fn flag(s: State, i: u32, mem: &mut Memory, space: &mut Space) {
+    let bit = trials::bit(i);
+    text(b"maccr ");
+    lines::value(s.control.registers.maccr);
+    text(b" flags ");
+    lines::value(bit);
+    trials::arrives_new(s, mem, space, 64, trials::TYPE, 1, bit);
+}
+
+// Each flag bit alone, with this MAC_CR.
 fn flags_with(maccr: u32, mem: &mut Memory, space: &mut Space) {
     let s = trials::base(5, maccr, mem);
     for i in 0..32u32 {
-        let flag = 1u32 << i;
-        text(b"maccr ");
-        lines::value(maccr);
-        text(b" flags ");
-        lines::value(flag);
-        trials::arrives_new(s, mem, space, 64, trials::TYPE, 1, flag);
+        flag(s, i, mem, space);
     }
 }
 

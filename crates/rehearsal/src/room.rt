@@ -43,13 +43,19 @@ fn data(mem: &mut Memory, space: &mut Space) {
 }
 
 // One frame more than there are statuses.
-fn statuses(mem: &mut Memory, space: &mut Space) {
-    let mut at = trials::base(14, trials::PASSBAD, mem);
+fn too_many(s: State, mem: &mut Memory, space: &mut Space) -> State {
+    let mut at = s;
     for _ in 0..33u32 {
         at = arrives(b"statuses ", at, 14, mem, space);
     }
+    at
+}
+
+fn statuses(mem: &mut Memory, space: &mut Space) {
+    let s = trials::base(14, trials::PASSBAD, mem);
+    let full = too_many(s, mem, space);
     text(b"pop");
-    let freed = trials::called(model::rx_status_pop(at, mem), mem);
+    let freed = trials::called(model::rx_status_pop(full, mem), mem);
     arrives(b"statuses ", freed, 14, mem, space);
 }
 

@@ -23,13 +23,22 @@ fn addrh(s: State, v: u32, mem: &[u32]) {
     trials::called(model::mac_write(s, mem, 2, v), mem);
 }
 
+// A value is written to MAC_CR.
+fn maccr(s: State, v: u32, mem: &[u32]) {
+    lines::value(v);
+    trials::called(model::mac_write(s, mem, 1, v), mem);
+}
+
+// Bit i of MAC_CR alone.
+fn maccr_bit(s: State, i: u32, mem: &[u32]) {
+    text(b"maccr ");
+    maccr(s, trials::bit(i), mem);
+}
+
 // Each bit of MAC_CR alone.
 fn maccr_bits(s: State, mem: &[u32]) {
     for i in 0..32u32 {
-        let v = 1u32 << i;
-        text(b"maccr ");
-        lines::value(v);
-        trials::called(model::mac_write(s, mem, 1, v), mem);
+        maccr_bit(s, i, mem);
     }
 }
 
@@ -39,15 +48,18 @@ fn maccr_of(k: u32) -> u32 {
     first | k / 4 % 2 << 17 | k / 2 % 2 << 15 | k % 2 << 13
 }
 
+// MAC_CR with setting k.
+fn maccr_setting(s: State, k: u32, mem: &[u32]) {
+    text(b"setting ");
+    lines::number(k as usize);
+    text(b" ");
+    maccr(s, maccr_of(k), mem);
+}
+
 // Each of the 32 settings.
 fn maccr_settings(s: State, mem: &[u32]) {
     for k in 0..32u32 {
-        let v = maccr_of(k);
-        text(b"setting ");
-        lines::number(k as usize);
-        text(b" ");
-        lines::value(v);
-        trials::called(model::mac_write(s, mem, 1, v), mem);
+        maccr_setting(s, k, mem);
     }
 }
 

@@ -79,22 +79,36 @@ fn takes(round: usize, s: State, mem: &mut Memory, space: &mut Space) -> State {
     at
 }
 
-// Reads so many data words, and prints their digest.
-fn read_words(count: u32, s: State, mem: &[u32]) -> State {
-    let mut at = s;
-    let mut d: u32 = 0;
-    for _ in 0..count {
-        let r = model::rx_data_read(at, mem);
-        let answer = r.answer;
-        if let Answer::Value(w) = answer {
-            d = digests::with(d, w);
-        }
-        at = r.state;
+// A state, and the digest of the words read so far.
+struct Read {
+    state: State,
+    digest: u32,
+}
+
+// Reads a data word.
+fn read_word(x: Read, mem: &[u32]) -> Read {
+    let r = model::rx_data_read(x.state, mem);
+    let after = r.state;
+    let answer = r.answer;
+    let Answer::Value(w) = answer else {
+        return x;
+    };
+    Read {
+        state: after,
+        digest: digests::with(x.digest, w),
     }
-    text(b" digest ");
-    lines::value(d);
-    text(b"\n");
-    at
+}
+
+// Reads so many data words.
+fn read_words(count: u32, s: State, mem: &[u32]) -> Read {
+    let mut x = Read {
+        state: s,
+        digest: 0,
+    };
+    for _ in 0..count {
+        x = read_word(x, mem);
+    }
+    x
 }
 
 // Pops a status and reads its frame; nothing where none waits.
@@ -107,19 +121,29 @@ fn read_frame(s: State, mem: &[u32]) -> State {
     };
     let length = status / 65536 % 16384;
     let count = (length + 3) / 4;
+    let x = read_words(count, after, mem);
     text(b"status ");
     lines::value(status);
     text(b" words ");
     lines::number(count as usize);
-    read_words(count, after, mem)
+    text(b" digest ");
+    lines::value(x.digest);
+    text(b"\n");
+    x.state
 }
 
-// Reads everything back. No split has more than 224 statuses.
-fn read_back(s: State, mem: &[u32]) -> State {
+// Reads all frames. No split has more than 224 statuses.
+fn read_frames(s: State, mem: &[u32]) -> State {
     let mut at = s;
-    for _ in 0..256u32 {
+    for _ in 0..224u32 {
         at = read_frame(at, mem);
     }
+    at
+}
+
+// Reads everything back, and shows that nothing is left.
+fn read_back(s: State, mem: &[u32]) -> State {
+    let at = read_frames(s, mem);
     text(b"status");
     let none = trials::called(model::rx_status_pop(at, mem), mem);
     text(b"data");

@@ -22,6 +22,11 @@ pub const TXEN: u32 = 0x0000_0008;
 // A length or type that is a type.
 pub const TYPE: u32 = 0x0800;
 
+// Bit i alone; none from 32 on.
+pub fn bit(i: u32) -> u32 {
+    if i < 32 { 1 << i } else { 0 }
+}
+
 // Filled memory: word i is (i + 1) times 9E3779B9h.
 pub fn fill(mem: &mut [u32]) {
     let mut w: u32 = 0;

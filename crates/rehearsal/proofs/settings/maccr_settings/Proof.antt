@@ -5,43 +5,16 @@ use Rattle.rehearsal.proofs.settings.maccr_settings.Statement.{statemen
 use Rattle.rehearsal.proofs.settings.maccr_settings.Tie as tie
 
 abbrev Inv-loop : tie.InvT-loop
-Inv-loop s mem k₀ t5 t6 k = k ≤ 32
+Inv-loop s mem k₀ k = k ≤ 32
 
 abbrev μ-loop : tie.MeasureT-loop
-μ-loop s mem k₀ t5 t6 k = 32 - k
+μ-loop s mem k₀ k = 32 - k
 
 loop-holds : tie.Need-loop-holds Inv-loop μ-loop
 loop-holds c = search needs
 
-maccr-of-requires : tie.Need-maccr-of-requires Inv-loop μ-loop
-maccr-of-requires c κs = search needs
-
-slice-aggregate-text : tie.Need-slice-aggregate-text Inv-loop μ-loop
-slice-aggregate-text c = search needs
-
-text-requires : tie.Need-text-requires Inv-loop μ-loop
-text-requires c κs = search needs
-
-cast-number : tie.Need-cast-number Inv-loop μ-loop
-cast-number c = search needs
-
-number-requires : tie.Need-number-requires Inv-loop μ-loop
-number-requires c κs = search needs
-
-slice-aggregate-text-2 : tie.Need-slice-aggregate-text-2 Inv-loop μ-loop
-slice-aggregate-text-2 c = search needs
-
-text-requires-2 : tie.Need-text-requires-2 Inv-loop μ-loop
-text-requires-2 c κs = search needs
-
-value-requires : tie.Need-value-requires Inv-loop μ-loop
-value-requires c κs = search needs
-
-mac-write-requires : tie.Need-mac-write-requires Inv-loop μ-loop
-mac-write-requires c κs = search needs
-
-called-requires : tie.Need-called-requires Inv-loop μ-loop
-called-requires c κs = search needs
+maccr-setting-requires : tie.Need-maccr-setting-requires Inv-loop μ-loop
+maccr-setting-requires c κs = search needs
 
 add-k : tie.Need-add-k Inv-loop μ-loop
 add-k c = search needs
@@ -58,21 +31,4 @@ returns c = search needs
 pub maccr-settings-spec : {M : Type 1} → statement M
 maccr-settings-spec =
     tie.close
-    (tie.spec
-    Inv-loop
-    μ-loop
-    loop-holds
-    maccr-of-requires
-    slice-aggregate-text
-    text-requires
-    cast-number
-    number-requires
-    slice-aggregate-text-2
-    text-requires-2
-    value-requires
-    mac-write-requires
-    called-requires
-    add-k
-    loop-less
-    loop-again
-    returns)
+    (tie.spec Inv-loop μ-loop loop-holds maccr-setting-requires add-k loop-less loop-again returns)
