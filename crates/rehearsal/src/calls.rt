@@ -11,6 +11,7 @@ use paper::State;
 // What stands before a call's name.
 pub enum Prefix {
     Memory(usize),
+    Both,
     Split(usize),
 }
 
@@ -20,6 +21,7 @@ fn label(p: Prefix, name: &[u8]) {
             text(b"memory ");
             lines::number(length);
         }
+        Prefix::Both => text(b"both"),
         Prefix::Split(n) => {
             text(b"n ");
             lines::number(n);
@@ -99,6 +101,14 @@ fn front(length: usize, s: State, mem: &mut [u32], space: &mut Space) {
     }
 }
 
+// A word too few, and a state that is out of its range: 14 comes before 15.
+fn both(s: State, mem: &mut [u32], space: &mut Space) {
+    if 4095 <= mem.len() {
+        let forged = trials::with_n(s, 15);
+        each(Prefix::Both, forged, &mut mem[..4095], space);
+    }
+}
+
 // One word more than is lent to a call that is not refused.
 pub fn part(mem: &mut [u32; 4097], space: &mut Space) {
     lines::part(b"memory");
@@ -108,4 +118,5 @@ pub fn part(mem: &mut [u32; 4097], space: &mut Space) {
     front(4095, s, mem, space);
     front(4097, s, mem, space);
     front(4096, s, mem, space);
+    both(s, mem, space);
 }

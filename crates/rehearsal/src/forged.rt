@@ -47,10 +47,7 @@ fn with_port(s: State, expect: Expect, whole: u32) -> State {
 }
 
 fn n(s: State, v: u32, mem: &[u32]) {
-    let control = s.control;
-    let mut r = control.registers;
-    r.n = v;
-    line(b"n", v, with_registers(s, r), mem);
+    line(b"n", v, trials::with_n(s, v), mem);
 }
 
 fn maccr(s: State, v: u32, mem: &[u32]) {
@@ -257,8 +254,5 @@ pub fn part(mem: &mut Memory, space: &mut Space) {
     rings(5, 1152, 2640, 176, mem);
     rings(14, 3456, 480, 32, mem);
     port(s, mem);
-    let control = s.control;
-    let mut r = control.registers;
-    r.n = 15;
-    calls::each(Prefix::Split(15), with_registers(s, r), mem, space);
+    calls::each(Prefix::Split(15), trials::with_n(s, 15), mem, space);
 }

@@ -5,10 +5,13 @@ ghost use lib.ListN.{length as List·length};
 // Room for a frame that is longer than any that is taken.
 pub type Space = [u8; 2049];
 
-// The destination of a frame: our address, another station's, or broadcast.
+// The destination of a frame: our address, another station's, ours with the group bit, two group addresses, or broadcast.
 pub enum To {
     Ours,
     Other,
+    Near,
+    Group,
+    Six,
     All,
 }
 
@@ -24,11 +27,34 @@ fn ours(i: usize) -> u8 {
     }
 }
 
+// Byte i of 01-00-5E-00-00-01.
+fn group(i: usize) -> u8 {
+    match i {
+        0 => 0x01,
+        2 => 0x5E,
+        5 => 0x01,
+        _ => 0x00,
+    }
+}
+
+// Byte i of 33-33-00-00-00-01.
+fn six(i: usize) -> u8 {
+    match i {
+        0 => 0x33,
+        1 => 0x33,
+        5 => 0x01,
+        _ => 0x00,
+    }
+}
+
 // Byte i of a destination.
 fn destination(to: To, i: usize) -> u8 {
     match to {
         To::Ours => ours(i),
         To::Other => { if i == 5 { 0x56 } else { ours(i) } }
+        To::Near => { if i == 0 { 0x03 } else { ours(i) } }
+        To::Group => group(i),
+        To::Six => six(i),
         To::All => 0xFF,
     }
 }

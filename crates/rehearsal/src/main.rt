@@ -9,10 +9,12 @@
 //   forged     part `state`
 //   arrivals   parts `lengths`, `flags`, `types` and `fcs`
 //   settings   parts `registers` and `restarts`
+//   filters    part `filter`
 //   room       part `room`
 mod arrivals;
 mod calls;
 mod digests;
+mod filters;
 mod forged;
 mod frames;
 mod lines;
@@ -37,5 +39,6 @@ fn main() {
     settings::restarts(mem, space);
     arrivals::types(mem, space);
     arrivals::fcs(mem, space);
+    filters::part(mem, space);
     room::part(mem, space);
 }

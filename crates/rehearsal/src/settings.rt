@@ -43,7 +43,7 @@ fn maccr_bits(s: State, mem: &[u32]) {
 }
 
 // MAC_CR with the five mode bits of setting k: MCPAS, PRMS, INVFILT, HO, HPFILT.
-fn maccr_of(k: u32) -> u32 {
+pub fn maccr_of(k: u32) -> u32 {
     let first = k / 16 % 2 << 19 | k / 8 % 2 << 18;
     first | k / 4 % 2 << 17 | k / 2 % 2 << 15 | k % 2 << 13
 }

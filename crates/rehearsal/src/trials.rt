@@ -51,6 +51,17 @@ pub fn base(n: u32, maccr: u32, mem: &[u32]) -> State {
     done.state
 }
 
+// A state with another n, which no call made.
+pub fn with_n(s: State, n: u32) -> State {
+    let mut after = s;
+    let mut control = s.control;
+    let mut registers = control.registers;
+    registers.n = n;
+    control.registers = registers;
+    after.control = control;
+    after
+}
+
 fn digests(s: State, mem: &[u32]) {
     text(b" state ");
     lines::value(digests::of_state(s));
@@ -70,7 +81,7 @@ pub fn called(r: Reply, mem: &[u32]) -> State {
 }
 
 // What a call answered, under its name.
-fn asked(name: &[u8], r: Reply) {
+pub fn asked(name: &[u8], r: Reply) {
     let answer = r.answer;
     text(name);
     lines::said(answer);

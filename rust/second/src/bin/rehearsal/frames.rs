@@ -1,9 +1,13 @@
 //! The frames that arrive: docs/REHEARSAL.md, frame(L, V, k, D).
 //!   frame               its bytes, FCS included
-//!   OURS, OTHER, ALL    the three destinations
+//!   OURS, OTHER, ALL    the destinations of takes
+//!   NEAR, GROUP, SIX    group addresses that only part `filter` sends to
 
 pub const OURS: [u8; 6] = [0x02, 0x11, 0x22, 0x33, 0x44, 0x55];
 pub const OTHER: [u8; 6] = [0x02, 0x11, 0x22, 0x33, 0x44, 0x56];
+pub const NEAR: [u8; 6] = [0x03, 0x11, 0x22, 0x33, 0x44, 0x55];
+pub const GROUP: [u8; 6] = [0x01, 0x00, 0x5E, 0x00, 0x00, 0x01];
+pub const SIX: [u8; 6] = [0x33, 0x33, 0x00, 0x00, 0x00, 0x01];
 pub const ALL: [u8; 6] = [0xFF; 6];
 
 /// What bytes 6 to 11 are, whatever the frame.

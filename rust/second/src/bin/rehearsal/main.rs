@@ -6,10 +6,11 @@
 //! that arrive; `takes` parts `takes 5` and `takes 14`; `seventeen` the
 //! seventeen calls and part `memory`; `forged` part `state`; `settings` parts
 //! `registers` and `restarts`; `arrivals` parts `lengths`, `flags`, `types`,
-//! `fcs` and `room`.
+//! `fcs` and `room`; `filter` part `filter`.
 #![forbid(unsafe_code)]
 
 mod arrivals;
+mod filter;
 mod forged;
 mod frames;
 mod lines;
@@ -23,7 +24,7 @@ use std::io::Write;
 use part::Part;
 
 fn main() -> std::io::Result<()> {
-    let parts: [fn() -> Part; 11] = [
+    let parts: [fn() -> Part; 12] = [
         || takes::takes("takes 5", 5),
         || takes::takes("takes 14", 14),
         seventeen::memory,
@@ -34,6 +35,7 @@ fn main() -> std::io::Result<()> {
         settings::restarts,
         arrivals::types,
         arrivals::fcs,
+        filter::filter,
         arrivals::room,
     ];
     let mut out = std::io::stdout().lock();

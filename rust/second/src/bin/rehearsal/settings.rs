@@ -42,7 +42,7 @@ fn write(part: &mut Part, mac_cr: u32, label: &str, register: u32, word: u32) {
 }
 
 /// "bit 19 if K has 16, bit 18 if 8, bit 17 if 4, bit 15 if 2, bit 13 if 1"
-fn setting(k: u32) -> u32 {
+pub fn setting(k: u32) -> u32 {
     [(16, 19), (8, 18), (4, 17), (2, 15), (1, 13)]
         .into_iter()
         .filter(|(has, _)| k & has != 0)

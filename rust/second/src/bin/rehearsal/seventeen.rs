@@ -48,5 +48,13 @@ pub fn memory() -> Part {
             words[..length].copy_from_slice(&part.second.memory);
         }
     }
+    for (name, call) in SEVENTEEN {
+        part.second = Second {
+            memory: words[..4095].to_vec(),
+            ..named.clone()
+        };
+        part.second.registers.n = 15;
+        part.call(&format!("both {name}"), call);
+    }
     part
 }
