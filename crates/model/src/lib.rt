@@ -154,7 +154,7 @@ pub fn rx_data_read(s: State, mem: &[u32]) -> Reply
 {
     match entry::enter(s, mem.len()) {
         Entry::Shut(k) => refused(s, k),
-        Entry::Clear => receive::reads::rx_data_read(s, mem),
+        Entry::Clear => reads::rx_data_read(s, mem),
     }
 }
 
@@ -164,7 +164,7 @@ pub fn rx_status_pop(s: State, mem: &[u32]) -> Reply
 {
     match entry::enter(s, mem.len()) {
         Entry::Shut(k) => refused(s, k),
-        Entry::Clear => receive::reads::rx_status_pop(s, mem),
+        Entry::Clear => reads::rx_status_pop(s, mem),
     }
 }
 
@@ -174,7 +174,7 @@ pub fn rx_status_peek(s: State, mem: &[u32]) -> Reply
 {
     match entry::enter(s, mem.len()) {
         Entry::Shut(k) => refused(s, k),
-        Entry::Clear => receive::reads::rx_status_peek(s, mem),
+        Entry::Clear => reads::rx_status_peek(s, mem),
     }
 }
 
@@ -184,7 +184,7 @@ pub fn tx_status_pop(s: State, mem: &[u32]) -> Reply
 {
     match entry::enter(s, mem.len()) {
         Entry::Shut(k) => refused(s, k),
-        Entry::Clear => receive::reads::tx_status_pop(s, mem),
+        Entry::Clear => reads::tx_status_pop(s, mem),
     }
 }
 
@@ -194,6 +194,6 @@ pub fn tx_status_peek(s: State, mem: &[u32]) -> Reply
 {
     match entry::enter(s, mem.len()) {
         Entry::Shut(k) => refused(s, k),
-        Entry::Clear => receive::reads::tx_status_peek(s, mem),
+        Entry::Clear => reads::tx_status_peek(s, mem),
     }
 }

@@ -1,5 +1,3 @@
 -- Laws that the proofs of receive cite.
-pub mod Parts
 pub mod Lines
 pub mod Bits
-pub mod Reading

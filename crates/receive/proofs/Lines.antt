@@ -31,10 +31,10 @@ use Rattle.paper.proofs.Choice.{if-cases, or-neither}
 use Rattle.paper.proofs.ArrivalLines.{isShort, arrives-answer}
 use Rattle.paper.proofs.Contracts.{world, told-decided, levels-are}
 use Rattle.entry.specs.Entry.{Entered}
+use Rattle.entry.specs.Parts.{splitOf, withRing}
+use Rattle.entry.proofs.Parts.{in-ring}
 use Rattle.rings.specs.Rings.{Changed}
 use Rattle.receive.specs.Judging.{verdictOf, Sized, Fitting, arrivedAt, Leaves, dropped}
-use Rattle.receive.specs.Oldest.{withRing}
-use Rattle.receive.proofs.Parts.{splitOf, in-ring}
 
 -- What Stored says of a frame of len bytes, with so many words and statuses free.
 record Kept (words statuses len : ℕ) : Type 0 where

@@ -1,4 +1,3 @@
 -- What the contracts of receive cite beside the definitions of paper.
 pub mod Judging
 pub mod Marks
-pub mod Oldest

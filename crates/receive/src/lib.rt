@@ -2,9 +2,7 @@
 // written before all of it is known to fit.
 //   judge     the seven lines
 //   status    the RX status
-//   reads     the host's reads of RX data and of the statuses
 mod judge;
-pub mod reads;
 mod status;
 
 ghost use mathlib.Core.Path.{_≡_};

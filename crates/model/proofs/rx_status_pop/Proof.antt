@@ -1,4 +1,4 @@
--- `model::rx_status_pop` meets its contract: a state or memory that does not pass the entry test is refused and left, and past it the work is that of `receive`.
+-- `model::rx_status_pop` meets its contract: a state or memory that does not pass the entry test is refused and left, and past it the work is that of `reads`.
 -- Assumes nothing.
 use denote.Ref.{now}
 use mathlib.Core.Path.{refl, sym}

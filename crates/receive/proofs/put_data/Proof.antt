@@ -4,7 +4,7 @@ use denote.Ref.{now}
 use lib.ListN.{length}
 use Rattle.paper.specs.Arrivals.{wordsFor}
 use Rattle.paper.specs.Memory.{RxData}
-use Rattle.receive.proofs.Parts.{split-range, words-fit}
+use Rattle.entry.proofs.Parts.{split-range, words-fit}
 use Rattle.receive.proofs.put_data.Statement.{statement}
 use Rattle.receive.proofs.put_data.Tie as tie
 

@@ -2,7 +2,7 @@
 use borrow.Author.Needs.{needs}
 use native.Mathlib.Omega.{arith}
 use Rattle.paper.specs.Memory.{RxStatus}
-use Rattle.receive.proofs.Parts.{split-range, words-fit}
+use Rattle.entry.proofs.Parts.{split-range, words-fit}
 use Rattle.receive.proofs.put_status.Statement.{statement}
 use Rattle.receive.proofs.put_status.Tie as tie
 

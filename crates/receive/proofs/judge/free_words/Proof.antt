@@ -2,7 +2,7 @@
 use native.Mathlib.Omega.{arith}
 use borrow.Author.Needs.{needs}
 use Rattle.paper.specs.Memory.{RxData}
-use Rattle.receive.proofs.Parts.{split-range, in-ring}
+use Rattle.entry.proofs.Parts.{split-range, in-ring}
 use Rattle.receive.proofs.judge.free_words.Statement.{statement}
 use Rattle.receive.proofs.judge.free_words.Tie as tie
 

@@ -2,18 +2,16 @@
 --   oldestOf count w      the answer where count words wait and w is at the place of the oldest
 --   restOf size r         the ring without its oldest word; the ring itself where none waits
 --   Rest size r q         q is that ring, and its place is in the ring's range
---   withRing f r s        the state s with another ring of FIFO f
 -- Assumes nothing.
 use mathlib.Core.Path.{_≡_}
 use Prim.Native.Nat.{ℕ, _<_}
 use lib.Dec.{eqb}
 use Rattle.paper.specs.declared.Ring.{Ring}
-use Rattle.paper.specs.declared.State.{State}
 use Rattle.paper.specs.declared.Answer.{Answer}
 use Rattle.paper.specs.declared.Answer.the-variants.{Value, Refused}
 use Rattle.paper.specs.declared.Refusal.the-variants.{NothingThere}
 use Rattle.paper.specs.Words.{if_then_else_}
-use Rattle.paper.specs.Memory.{Fifo, TxData, TxStatus, RxData, RxStatus, takes, ringAfter}
+use Rattle.paper.specs.Memory.{takes, ringAfter}
 
 abbrev pub oldestOf : (count w : ℕ) → Answer
 oldestOf count w = if eqb count 0 then Refused NothingThere else Value w
@@ -24,9 +22,3 @@ restOf size r = if eqb (r .count) 0 then r else ringAfter size (takes 1) r
 pub record Rest (size : ℕ) (r q : Ring) : Type 0 where
   pub ring : q ≡ restOf size r
   pub oldest : q .at < size
-
-abbrev pub withRing : Fifo → Ring → State → State
-withRing TxData r s = record { control = s .control; txdata = r; txstatus = s .txstatus; rxdata = s .rxdata; rxstatus = s .rxstatus }
-withRing TxStatus r s = record { control = s .control; txdata = s .txdata; txstatus = r; rxdata = s .rxdata; rxstatus = s .rxstatus }
-withRing RxData r s = record { control = s .control; txdata = s .txdata; txstatus = s .txstatus; rxdata = r; rxstatus = s .rxstatus }
-withRing RxStatus r s = record { control = s .control; txdata = s .txdata; txstatus = s .txstatus; rxdata = s .rxdata; rxstatus = r }

@@ -1,9 +1,9 @@
--- `receive::reads::oldest` meets its contract: no word, and the oldest. Assumes nothing.
+-- `reads::oldest` meets its contract: no word, and the oldest. Assumes nothing.
 use borrow.Author.Needs.{needs}
 use borrow.Author.Tests.{eq-eqb, ne-eqb}
 use Rattle.paper.specs.Words.{if_then_else_}
-use Rattle.receive.proofs.reads.oldest.Statement.{statement}
-use Rattle.receive.proofs.reads.oldest.Tie as tie
+use Rattle.reads.proofs.oldest.Statement.{statement}
+use Rattle.reads.proofs.oldest.Tie as tie
 
 -- no word
 returns : tie.Need-returns

@@ -12,18 +12,15 @@ use Prim.Native.Nat.{ℕ, _+_, _≤_}
 use native.Mathlib.Omega.{arith}
 use lib.ListN.{length}
 use Rattle.paper.specs.declared.State.{State}
-use Rattle.paper.specs.Memory.{Fifo, TxData, TxStatus, RxData, RxStatus, size, base}
+use Rattle.paper.specs.Memory.{Fifo, size, base}
 use Rattle.paper.specs.Refusals.{inRange}
 use Rattle.paper.proofs.Memory.{InRing, within}
 use Rattle.paper.proofs.Rings.{ring}
 use Rattle.paper.proofs.Entry.{ready}
 use Rattle.paper.proofs.Fifos.{each}
 use Rattle.rings.specs.Rings.{HasRoom, Waits}
 use Rattle.entry.specs.Entry.{Entered}
-
--- n, TX_FIF_SZ, of a state
-abbrev pub splitOf : State → ℕ
-splitOf s = s .control .registers .n
+use Rattle.entry.specs.Parts.{splitOf}
 
 -- In range, n is 2 to 14.
 pub split-range : (s : State) → inRange s ≡ true → (2 ≤ splitOf s) × (splitOf s ≤ 14)

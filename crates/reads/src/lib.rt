@@ -1,20 +1,24 @@
 // The host's reads of RX data and of the RX and TX statuses, for a state that passed the entry test (paper 01, Memory, and refusal 11). The memory is only
 // read. Each answers the oldest word of its FIFO, or refusal 11 where none waits; a pop, and a read of RX data, takes that word, a peek leaves it.
+//   source    the FIFOs that are read
 ghost use mathlib.Core.Path.{_≡_};
-ghost use Prim.Native.Nat.{_+_, _≤_, _<_};
+ghost use Prim.Native.Nat.{_+_, _<_};
 ghost use lib.ListN.{length, getD};
-ghost use Rattle.paper.specs.Memory.{TxStatus, RxData, RxStatus};
 ghost use Rattle.paper.specs.Calls.{RxDataRead, RxStatusPop, RxStatusPeek, TxStatusPop, TxStatusPeek};
 ghost use Rattle.paper.specs.Promises.{told, toldOf};
 ghost use Rattle.rings.specs.Rings.{Waits};
 ghost use Rattle.entry.specs.Entry.{Entered};
-ghost use Rattle.receive.specs.Oldest.{oldestOf, Rest, withRing};
+ghost use Rattle.reads.specs.Oldest.{oldestOf, Rest};
+ghost use Rattle.reads.specs.Sources.{popOf, peekOf};
+use crate::source::Source;
+use crate::source::Status;
 use paper::Answer;
 use paper::Refusal;
 use paper::Reply;
 use paper::Ring;
 use paper::State;
-use rings::split;
+
+mod source;
 
 // The oldest word of a ring from word base on; refusal 11 where none waits.
 fn oldest(mem: &[u32], base: u32, r: Ring) -> Answer
@@ -38,39 +42,32 @@ fn rest(size: u32, r: Ring) -> Ring
     rings::take(size, r, 1)
 }
 
-// An answer, with the ring of TX status after it.
-fn with_tx_status(s: State, answer: Answer, r: Ring) -> Reply
-    ensures { λ a. ⌜ a ≡ record { answer = answer; state = withRing TxStatus r s } ⌝ }
+// Reads the oldest word of a FIFO and takes it; refusal 11 where none waits.
+fn pop(f: Source, s: State, mem: &[u32]) -> Reply
+    requires { ⌜ Entered s (now mem) ⌝ }
+    ensures { λ a. ⌜ told (a .answer) (a .state) (now (mem .entry)) ≡ toldOf (popOf f) s (now (mem .entry)) ⌝ }
 {
-    let mut after = s;
-    after.txstatus = r;
+    let n = s.control.registers.n;
+    let r = source::ring_of(f, s);
+    let left = rest(source::size_of(f, n), r);
+    let answer = oldest(mem, source::base_of(f, n), r);
     Reply {
         answer: answer,
-        state: after,
+        state: source::with_ring(f, left, s),
     }
 }
 
-// An answer, with the ring of RX data after it.
-fn with_rx_data(s: State, answer: Answer, r: Ring) -> Reply
-    ensures { λ a. ⌜ a ≡ record { answer = answer; state = withRing RxData r s } ⌝ }
+// Reads the oldest word of a status FIFO and leaves it; refusal 11 where none waits.
+fn peek(k: Status, s: State, mem: &[u32]) -> Reply
+    requires { ⌜ Entered s (now mem) ⌝ }
+    ensures { λ a. ⌜ told (a .answer) (a .state) (now (mem .entry)) ≡ toldOf (peekOf k) s (now (mem .entry)) ⌝ }
 {
-    let mut after = s;
-    after.rxdata = r;
+    let n = s.control.registers.n;
+    let f = source::source_of(k);
+    let r = source::ring_of(f, s);
     Reply {
-        answer: answer,
-        state: after,
-    }
-}
-
-// An answer, with the ring of RX status after it.
-fn with_rx_status(s: State, answer: Answer, r: Ring) -> Reply
-    ensures { λ a. ⌜ a ≡ record { answer = answer; state = withRing RxStatus r s } ⌝ }
-{
-    let mut after = s;
-    after.rxstatus = r;
-    Reply {
-        answer: answer,
-        state: after,
+        answer: oldest(mem, source::base_of(f, n), r),
+        state: s,
     }
 }
 
@@ -79,10 +76,7 @@ pub fn rx_data_read(s: State, mem: &[u32]) -> Reply
     requires { ⌜ Entered s (now mem) ⌝ }
     ensures { λ a. ⌜ told (a .answer) (a .state) (now (mem .entry)) ≡ toldOf RxDataRead s (now (mem .entry)) ⌝ }
 {
-    let n = s.control.registers.n;
-    let r = s.rxdata;
-    let left = rest(split::rx_data_size(n), r);
-    with_rx_data(s, oldest(mem, split::rx_data_base(n), r), left)
+    pop(Source::RxData, s, mem)
 }
 
 // Takes the oldest RX status.
@@ -90,10 +84,7 @@ pub fn rx_status_pop(s: State, mem: &[u32]) -> Reply
     requires { ⌜ Entered s (now mem) ⌝ }
     ensures { λ a. ⌜ told (a .answer) (a .state) (now (mem .entry)) ≡ toldOf RxStatusPop s (now (mem .entry)) ⌝ }
 {
-    let n = s.control.registers.n;
-    let r = s.rxstatus;
-    let left = rest(split::rx_status_size(n), r);
-    with_rx_status(s, oldest(mem, split::rx_status_base(n), r), left)
+    pop(Source::RxStatus, s, mem)
 }
 
 // Reads the oldest RX status and leaves it.
@@ -101,9 +92,7 @@ pub fn rx_status_peek(s: State, mem: &[u32]) -> Reply
     requires { ⌜ Entered s (now mem) ⌝ }
     ensures { λ a. ⌜ told (a .answer) (a .state) (now (mem .entry)) ≡ toldOf RxStatusPeek s (now (mem .entry)) ⌝ }
 {
-    let n = s.control.registers.n;
-    let r = s.rxstatus;
-    with_rx_status(s, oldest(mem, split::rx_status_base(n), r), r)
+    peek(Status::Rx, s, mem)
 }
 
 // Takes the oldest TX status.
@@ -111,10 +100,7 @@ pub fn tx_status_pop(s: State, mem: &[u32]) -> Reply
     requires { ⌜ Entered s (now mem) ⌝ }
     ensures { λ a. ⌜ told (a .answer) (a .state) (now (mem .entry)) ≡ toldOf TxStatusPop s (now (mem .entry)) ⌝ }
 {
-    let n = s.control.registers.n;
-    let r = s.txstatus;
-    let left = rest(split::tx_status_size(), r);
-    with_tx_status(s, oldest(mem, split::tx_status_base(n), r), left)
+    pop(Source::TxStatus, s, mem)
 }
 
 // Reads the oldest TX status and leaves it.
@@ -122,7 +108,5 @@ pub fn tx_status_peek(s: State, mem: &[u32]) -> Reply
     requires { ⌜ Entered s (now mem) ⌝ }
     ensures { λ a. ⌜ told (a .answer) (a .state) (now (mem .entry)) ≡ toldOf TxStatusPeek s (now (mem .entry)) ⌝ }
 {
-    let n = s.control.registers.n;
-    let r = s.txstatus;
-    with_tx_status(s, oldest(mem, split::tx_status_base(n), r), r)
+    peek(Status::Tx, s, mem)
 }

@@ -1,13 +1,12 @@
--- `receive::reads::rest` meets its contract: no word, and the ring without its oldest. Assumes nothing.
-use mathlib.Core.Path.{ap, _∙_}
+-- `reads::rest` meets its contract: no word, and the ring without its oldest. Assumes nothing.
 use native.Mathlib.Nat.{mod-lt}
 use native.Mathlib.Omega.{arith}
 use borrow.Author.Needs.{needs}
 use borrow.Author.Tests.{eq-eqb, ne-eqb}
 use Rattle.paper.specs.Words.{if_then_else_}
 use Rattle.paper.specs.Memory.{ringAfter}
-use Rattle.receive.proofs.reads.rest.Statement.{statement}
-use Rattle.receive.proofs.reads.rest.Tie as tie
+use Rattle.reads.proofs.rest.Statement.{statement}
+use Rattle.reads.proofs.rest.Tie as tie
 
 -- no word
 returns : tie.Need-returns

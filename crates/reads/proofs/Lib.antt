@@ -1,0 +1,2 @@
+-- Laws that the proofs of reads cite.
+pub mod Reading

@@ -1,0 +1,3 @@
+-- What the contracts of reads cite beside the definitions of paper.
+pub mod Oldest
+pub mod Sources
