@@ -2,15 +2,16 @@
 --   taking f              the changes of a read that takes the oldest word of FIFO f
 --   read-told             the contract of any call that reads the oldest word of FIFO f
 --   pop-rule, peek-rule   what is decided of each call that takes that word, and of each that leaves it
---   popped, peeked        their contracts, from what the functions of this crate ensure
+--   inside, at-in-part    where the part of a FIFO and its oldest word lie
+--   popped, peeked        the contracts of those calls, from what the functions of this crate ensure
 -- Assumes nothing.
 use mathlib.Core.Path.{_≡_, refl, sym, ap, _∙_}
 use mathlib.Core.Bool.{false}
 use mathlib.Core.List.{List, []}
-use Prim.Native.Nat.{ℕ, zero, suc, _+_}
+use Prim.Native.Nat.{ℕ, zero, suc, _+_, _≤_, _<_}
 use native.Mathlib.Omega.{arith}
 use lib.Dec.{eqb}
-use lib.ListN.{getD}
+use lib.ListN.{length, getD}
 use borrow.Author.Tests.{eq-eqb, ne-eqb}
 use Rattle.paper.specs.declared.Ring.{Ring}
 use Rattle.paper.specs.declared.Control.{Control}
@@ -28,13 +29,14 @@ use Rattle.paper.proofs.Rings.{ring, apply-nothing}
 use Rattle.paper.proofs.Contracts.{world, told-same, told-decided, none-waits, oldest-waits}
 use Rattle.entry.specs.Entry.{Entered}
 use Rattle.entry.specs.Parts.{splitOf, withRing}
-use Rattle.entry.proofs.Parts.{in-ring}
+use Rattle.entry.proofs.Parts.{in-ring, part-inside}
 use Rattle.reads.specs.declared.source.Source.{Source}
 use Rattle.reads.specs.declared.source.Source.the-variants as source
+use Rattle.reads.specs.declared.source.Part.{Part}
 use Rattle.reads.specs.declared.source.Status.{Status}
 use Rattle.reads.specs.declared.source.Status.the-variants.{Tx, Rx}
 use Rattle.reads.specs.Oldest.{oldestOf, restOf, Rest}
-use Rattle.reads.specs.Sources.{fifoOf, popOf, sourceOf, peekOf}
+use Rattle.reads.specs.Sources.{fifoOf, partOf, popOf, sourceOf, peekOf}
 
 abbrev taking : Fifo → Four Change
 taking TxData = record { txdata = takes 1; txstatus = keeps; rxdata = keeps; rxstatus = keeps }
@@ -124,18 +126,26 @@ peek-lends : (j : Status) → lends (peekOf j) ≡ []
 peek-lends Tx = refl
 peek-lends Rx = refl
 
-module _ {s : State} {m : List ℕ} (e : Entered s m) {answer : Answer} {r : Ring} {b : ℕ} (got : answer ≡ oldestOf (r .count) (getD m (b + r .at) 0)) where
+module _ {s : State} {m : List ℕ} (e : Entered s m) (f : Source) {p : Part} (part : p ≡ partOf (fifoOf f) (splitOf s)) where
+  -- A FIFO's part lies in the lent memory.
+  pub inside : p .base + p .size ≤ length m
+  inside = rw part (part-inside (fifoOf f) s m e)
+
+  -- The place of its oldest word is in its part.
+  pub at-in-part : {r : Ring} → r ≡ ring (fifoOf f) s → r .at < p .size
+  at-in-part own = rw (own, part) (in-ring s (e .range) (fifoOf f) .at-lt)
+
+module _ {s : State} {m : List ℕ} (e : Entered s m) {answer : Answer} {p : Part} {r : Ring} (got : answer ≡ oldestOf (r .count) (getD m (p .base + r .at) 0)) where
   -- The oldest word, taken.
-  pub popped : (f : Source) {left : Ring} {t : State} {whole : ℕ} → r ≡ ring (fifoOf f) s → b ≡ base (fifoOf f) (splitOf s) → whole ≡ size (fifoOf f) (splitOf s)
-      → Rest whole r left → t ≡ withRing (fifoOf f) left s → told answer t m ≡ toldOf (popOf f) s m
-  popped f own at sized rest after =
-      rw (after, got, rest .ring, at, sized, own)
-      (read-told (fifoOf f) s m (popOf f) (pop-lends f) e (taking (fifoOf f)) (pop-rule f)
-      (withRing (fifoOf f) (restOf (size (fifoOf f) (splitOf s)) (ring (fifoOf f) s)) s) (rest-none (fifoOf f) s m) (rest-some (fifoOf f) s m))
+  pub popped : (f : Source) → p ≡ partOf (fifoOf f) (splitOf s) → r ≡ ring (fifoOf f) s
+      → {left : Ring} → Rest (p .size) r left → {t : State} → t ≡ withRing (fifoOf f) left s → told answer t m ≡ toldOf (popOf f) s m
+  popped f part own rest after =
+      rw (after, got, rest .ring, part, own)
+      (read-told (fifoOf f) s m (popOf f) (pop-lends f) e (taking (fifoOf f)) (pop-rule f) _ (rest-none (fifoOf f) s m) (rest-some (fifoOf f) s m))
 
   -- The oldest word, left.
-  pub peeked : (j : Status) {f : Source} → f ≡ sourceOf j → r ≡ ring (fifoOf f) s → b ≡ base (fifoOf f) (splitOf s)
+  pub peeked : (j : Status) {f : Source} → f ≡ sourceOf j → p ≡ partOf (fifoOf f) (splitOf s) → r ≡ ring (fifoOf f) s
       → told answer s m ≡ toldOf (peekOf j) s m
-  peeked j same own at =
-      rw (got, at, own, same)
+  peeked j same part own =
+      rw (got, part, own, same)
       (read-told (fifoOf (sourceOf j)) s m (peekOf j) (peek-lends j) e unchanged (peek-rule j) s (λ _. refl) (λ _ _. apply-nothing _ (world s m) refl refl))

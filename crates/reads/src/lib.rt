@@ -47,10 +47,10 @@ fn pop(f: Source, s: State, mem: &[u32]) -> Reply
     requires { ⌜ Entered s (now mem) ⌝ }
     ensures { λ a. ⌜ told (a .answer) (a .state) (now (mem .entry)) ≡ toldOf (popOf f) s (now (mem .entry)) ⌝ }
 {
-    let n = s.control.registers.n;
+    let p = source::part_of(f, s.control.registers.n);
     let r = source::ring_of(f, s);
-    let left = rest(source::size_of(f, n), r);
-    let answer = oldest(mem, source::base_of(f, n), r);
+    let left = rest(p.size, r);
+    let answer = oldest(mem, p.base, r);
     Reply {
         answer: answer,
         state: source::with_ring(f, left, s),
@@ -62,11 +62,11 @@ fn peek(k: Status, s: State, mem: &[u32]) -> Reply
     requires { ⌜ Entered s (now mem) ⌝ }
     ensures { λ a. ⌜ told (a .answer) (a .state) (now (mem .entry)) ≡ toldOf (peekOf k) s (now (mem .entry)) ⌝ }
 {
-    let n = s.control.registers.n;
     let f = source::source_of(k);
+    let p = source::part_of(f, s.control.registers.n);
     let r = source::ring_of(f, s);
     Reply {
-        answer: oldest(mem, source::base_of(f, n), r),
+        answer: oldest(mem, p.base, r),
         state: s,
     }
 }

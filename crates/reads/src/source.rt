@@ -1,10 +1,9 @@
 // The FIFOs that the host reads, and what a state and the split give for each.
 ghost use mathlib.Core.Path.{_≡_};
 ghost use Prim.Native.Nat.{_≤_};
-ghost use Rattle.paper.specs.Memory.{size, base};
 ghost use Rattle.paper.proofs.Rings.{ring};
 ghost use Rattle.entry.specs.Parts.{withRing};
-ghost use Rattle.reads.specs.Sources.{fifoOf, sourceOf};
+ghost use Rattle.reads.specs.Sources.{fifoOf, sourceOf, partOf};
 use paper::Ring;
 use paper::State;
 use rings::split;
@@ -20,6 +19,12 @@ pub enum Source {
 pub enum Status {
     Tx,
     Rx,
+}
+
+// A part of the lent memory: its first word, and its words.
+pub struct Part {
+    pub base: u32,
+    pub size: u32,
 }
 
 // A status FIFO among those that are read.
@@ -43,27 +48,24 @@ pub fn ring_of(f: Source, s: State) -> Ring
     }
 }
 
-// The words of a FIFO, for TX_FIF_SZ n.
-pub fn size_of(f: Source, n: u32) -> u32
+// The part of the lent memory that is a FIFO's, for TX_FIF_SZ n.
+pub fn part_of(f: Source, n: u32) -> Part
     requires { ⌜ (2 ≤ n) × (n ≤ 14) ⌝ }
-    ensures { λ r. ⌜ r ≡ size (fifoOf f) n ⌝ }
+    ensures { λ p. ⌜ p ≡ partOf (fifoOf f) n ⌝ }
 {
     match f {
-        Source::TxStatus => split::tx_status_size(),
-        Source::RxData => split::rx_data_size(n),
-        Source::RxStatus => split::rx_status_size(n),
-    }
-}
-
-// The first word of a FIFO in the lent memory, for TX_FIF_SZ n.
-pub fn base_of(f: Source, n: u32) -> u32
-    requires { ⌜ (2 ≤ n) × (n ≤ 14) ⌝ }
-    ensures { λ r. ⌜ r ≡ base (fifoOf f) n ⌝ }
-{
-    match f {
-        Source::TxStatus => split::tx_status_base(n),
-        Source::RxData => split::rx_data_base(n),
-        Source::RxStatus => split::rx_status_base(n),
+        Source::TxStatus => Part {
+            base: split::tx_status_base(n),
+            size: split::tx_status_size(),
+        },
+        Source::RxData => Part {
+            base: split::rx_data_base(n),
+            size: split::rx_data_size(n),
+        },
+        Source::RxStatus => Part {
+            base: split::rx_status_base(n),
+            size: split::rx_status_size(n),
+        },
     }
 }
 
