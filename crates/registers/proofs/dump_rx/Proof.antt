@@ -32,7 +32,7 @@ returns-2 : tie.Need-returns-2
 returns-2 c = let free = c .before .before .before in
     let start = free .before .before .before .before in
     let a = start .args in
-    done (c .answered .ensures) refl (rw (c .before .before .empty .ensures, c .before .empty2 .ensures))
+    done (c .answered .ensures) refl (simp (c .before .before .empty .ensures, c .before .empty2 .ensures))
     (rx-dumped (a .s) (a .mem .now) (start .pre) (said-yes (free .before .may-dump-rx .ensures) (free .if1 .left)))
 
 pub dump-rx-spec : {M : Type 1} → statement M

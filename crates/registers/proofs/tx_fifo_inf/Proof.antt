@@ -1,6 +1,7 @@
 -- `registers::tx_fifo_inf` meets its contract: the levels are the rings' counts. Assumes nothing.
 use borrow.Author.Needs.{needs}
 use mathlib.Core.Path.{refl}
+use native.Mathlib.Omega.{arith}
 use Rattle.paper.proofs.Entry.{ready}
 use Rattle.registers.proofs.Calls.{done, tx-levels}
 use Rattle.registers.proofs.tx_fifo_inf.Statement.{statement}
@@ -9,7 +10,7 @@ use Rattle.registers.proofs.tx_fifo_inf.Tie as tie
 tx-fifo-inf-requires : tie.Need-tx-fifo-inf-requires
 tx-fifo-inf-requires c κs = let start = c .before in
     let within = ready (start .args .s) (start .pre .range) in
-    record { least = within .low; most = within .high; few = within .txstatusCount }
+    record { least = within .low; most = within .high; few = omega (arith, within .txstatusCount) }
 
 answered-requires : tie.Need-answered-requires
 answered-requires c κs = search needs
