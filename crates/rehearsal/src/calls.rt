@@ -12,6 +12,8 @@ use paper::State;
 pub enum Prefix {
     Memory(usize),
     Both,
+    Off,
+    On,
     Split(usize),
 }
 
@@ -22,6 +24,8 @@ fn label(p: Prefix, name: &[u8]) {
             lines::number(length);
         }
         Prefix::Both => text(b"both"),
+        Prefix::Off => text(b"off"),
+        Prefix::On => text(b"on"),
         Prefix::Split(n) => {
             text(b"n ");
             lines::number(n);

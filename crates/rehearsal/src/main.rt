@@ -7,6 +7,7 @@
 //   takes      parts `takes 5` and `takes 14`
 //   calls      part `memory`, and the seventeen calls
 //   forged     part `state`
+//   held       part `held`
 //   arrivals   parts `lengths`, `flags`, `types` and `fcs`
 //   settings   parts `registers` and `restarts`
 //   filters    part `filter`
@@ -17,6 +18,7 @@ mod digests;
 mod filters;
 mod forged;
 mod frames;
+mod held;
 mod lines;
 mod room;
 mod settings;
@@ -33,6 +35,7 @@ fn main() {
     let mut more: [u32; 4097] = [0; 4097];
     calls::part(&mut more, space);
     forged::part(mem, space);
+    held::part(mem, space);
     arrivals::lengths(mem, space);
     arrivals::flags(mem, space);
     settings::registers(mem);

@@ -1,6 +1,7 @@
-//! Part `state` of docs/REHEARSAL.md: states of which one number was changed,
-//! at the edge of its range and beyond it.
-//!   state       the part
+//! Parts `state` and `held` of docs/REHEARSAL.md: states of which one number was
+//! changed, at the edge of its range and beyond it; and one that holds words.
+//!   state       part `state`
+//!   held_words  part `held`
 //!   registers   n, the MAC registers, RX_DROP
 //!   fifos       place and count of each FIFO
 //!   whole       whole packets against the words held
@@ -154,4 +155,40 @@ fn every_call(part: &mut Part) {
         part.second.registers.n = 15;
         part.call(&format!("n 15 {name}"), call);
     }
+}
+
+/// Part `held`: the calls on a state of which every FIFO holds words.
+pub fn held_words() -> Part {
+    let mut part = Part::begin("held");
+    for (prefix, mac_cr) in [("off", 0), ("on", 0x0000_000C)] {
+        for (name, call) in SEVENTEEN {
+            part.stand_at(5, mac_cr);
+            hold(&mut part.second);
+            part.call(&format!("{prefix} {name}"), call);
+        }
+    }
+    part
+}
+
+/// "B(5, MAC_CR) with these numbers changed"
+fn hold(second: &mut Second) {
+    second.registers.drops = 9;
+    second.tx_data = Ring { place: 7, count: 9 };
+    second.tx_status = Ring {
+        place: 126,
+        count: 3,
+    };
+    second.rx_data = Ring {
+        place: 2639,
+        count: 5,
+    };
+    second.rx_status = Ring {
+        place: 175,
+        count: 2,
+    };
+    second.port.expects = Expects::A {
+        open: Some(Open { b: 0x40, sizes: 10 }),
+    };
+    second.port.error = true;
+    second.port.whole = 2;
 }

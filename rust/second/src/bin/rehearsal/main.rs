@@ -4,7 +4,7 @@
 //! Where to read what: `part` one part under way, its state, memory and lines;
 //! `lines` how numbers, answers and digests are written; `frames` the frames
 //! that arrive; `takes` parts `takes 5` and `takes 14`; `seventeen` the
-//! seventeen calls and part `memory`; `forged` part `state`; `settings` parts
+//! seventeen calls and part `memory`; `forged` parts `state` and `held`; `settings` parts
 //! `registers` and `restarts`; `arrivals` parts `lengths`, `flags`, `types`,
 //! `fcs` and `room`; `filter` part `filter`.
 #![forbid(unsafe_code)]
@@ -24,11 +24,12 @@ use std::io::Write;
 use part::Part;
 
 fn main() -> std::io::Result<()> {
-    let parts: [fn() -> Part; 12] = [
+    let parts: [fn() -> Part; 13] = [
         || takes::takes("takes 5", 5),
         || takes::takes("takes 14", 14),
         seventeen::memory,
         forged::state,
+        forged::held_words,
         arrivals::lengths,
         arrivals::flags,
         settings::registers,
