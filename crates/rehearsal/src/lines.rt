@@ -1,11 +1,12 @@
 // What is printed: numbers, answers, and the name of a part (docs/REHEARSAL.md, How things are written).
 ghost use mathlib.Core.Path.{_≡_};
 ghost use Rattle.paper.specs.Arrivals.{arrivalAnswer};
-ghost use Rattle.paper.specs.Refusals.{number as Refusals·number};
+ghost use Rattle.paper.specs.Refusals.{number as Refusals·number, said as Refusals·said};
 use libc::STDOUT_FILENO;
 use paper::Answer;
 use paper::Arrival;
 use paper::Refusal;
+use paper::Said;
 
 pub fn text(s: &[u8]) {
     io::write_all(STDOUT_FILENO, s);
@@ -29,7 +30,7 @@ pub fn part(name: &[u8]) {
 }
 
 // 01's number of a refusal.
-fn number_of(k: Refusal) -> usize
+fn number_of(k: Refusal) -> u32
     ensures { λ r. ⌜ r ≡ Refusals·number k ⌝ }
 {
     match k {
@@ -52,17 +53,27 @@ fn number_of(k: Refusal) -> usize
 }
 
 // An answer in numbers: the refusal's, 0 for none, and the value, 0 with every refusal.
-pub fn said(a: Answer) {
+pub fn numbers(a: Answer) -> Said
+    ensures { λ r. ⌜ r ≡ Refusals·said a ⌝ }
+{
     match a {
-        Answer::Value(v) => {
-            text(b"0 ");
-            value(v);
-        }
-        Answer::Refused(k) => {
-            number(number_of(k));
-            text(b" 00000000");
-        }
+        Answer::Value(v) => Said {
+            refusal: 0,
+            value: v,
+        },
+        Answer::Refused(k) => Said {
+            refusal: number_of(k),
+            value: 0,
+        },
     }
+}
+
+// An answer in numbers.
+pub fn said(a: Answer) {
+    let s = numbers(a);
+    number(s.refusal as usize);
+    text(b" ");
+    value(s.value);
 }
 
 // The answer to an arriving frame, by its name.
@@ -70,7 +81,7 @@ pub fn arrival(a: Arrival) {
     match a {
         Arrival::Refused(k) => {
             text(b"refused ");
-            number(number_of(k));
+            number(number_of(k) as usize);
         }
         Arrival::Ignored => text(b"Ignored"),
         Arrival::Discarded => text(b"Discarded"),

@@ -1,4 +1,4 @@
-// A rehearsal's takes arrive until receive memory is full and are read back; then bad input is tried. What is tried and how it is printed is said in
+// A rehearsal's takes arrive until receive memory is full and are read back; then bad input is tried, and a long run by drawn numbers. What is tried and how it is printed is said in
 // docs/REHEARSAL.md, which also says where the expected lines come from.
 //   lines      what is printed
 //   digests    digests of words, states and memory
@@ -12,6 +12,7 @@
 //   settings   parts `registers` and `restarts`
 //   filters    part `filter`
 //   room       part `room`
+//   long       part `long`
 mod arrivals;
 mod calls;
 mod digests;
@@ -20,6 +21,7 @@ mod forged;
 mod frames;
 mod held;
 mod lines;
+mod long;
 mod room;
 mod settings;
 mod takes;
@@ -44,4 +46,5 @@ fn main() {
     arrivals::fcs(mem, space);
     filters::part(mem, space);
     room::part(mem, space);
+    long::part(mem, space);
 }

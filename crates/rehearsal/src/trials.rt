@@ -62,7 +62,8 @@ pub fn with_n(s: State, n: u32) -> State {
     after
 }
 
-fn digests(s: State, mem: &[u32]) {
+// The digests of state and memory, and the line's end.
+pub fn digests(s: State, mem: &[u32]) {
     text(b" state ");
     lines::value(digests::of_state(s));
     text(b" memory ");

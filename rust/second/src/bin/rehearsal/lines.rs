@@ -34,11 +34,13 @@ pub fn answer(said: Said) -> String {
 /// "d begins at 0; for each word w in turn e is (d turned left by 5 bits) + w,
 /// mod 2^32, and d becomes the exclusive or of e and e shifted right by 13 bits"
 pub fn digest(words: &[u32]) -> String {
-    let with = |d: u32, w: &u32| {
-        let e = d.rotate_left(5).wrapping_add(*w);
-        e ^ (e >> 13)
-    };
-    value(words.iter().fold(0, with))
+    value(words.iter().fold(0, |d, w| with(d, *w)))
+}
+
+/// A digest with one word more.
+pub fn with(d: u32, w: u32) -> u32 {
+    let e = d.rotate_left(5).wrapping_add(w);
+    e ^ (e >> 13)
 }
 
 /// The digest of the state's numbers, group after group in the page's order.

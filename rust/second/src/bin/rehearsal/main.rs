@@ -6,7 +6,7 @@
 //! that arrive; `takes` parts `takes 5` and `takes 14`; `seventeen` the
 //! seventeen calls and part `memory`; `forged` parts `state` and `held`; `settings` parts
 //! `registers` and `restarts`; `arrivals` parts `lengths`, `flags`, `types`,
-//! `fcs` and `room`; `filter` part `filter`.
+//! `fcs` and `room`; `filter` part `filter`; `long` part `long`.
 #![forbid(unsafe_code)]
 
 mod arrivals;
@@ -14,6 +14,7 @@ mod filter;
 mod forged;
 mod frames;
 mod lines;
+mod long;
 mod part;
 mod settings;
 mod seventeen;
@@ -24,7 +25,7 @@ use std::io::Write;
 use part::Part;
 
 fn main() -> std::io::Result<()> {
-    let parts: [fn() -> Part; 13] = [
+    let parts: [fn() -> Part; 14] = [
         || takes::takes("takes 5", 5),
         || takes::takes("takes 14", 14),
         seventeen::memory,
@@ -38,6 +39,7 @@ fn main() -> std::io::Result<()> {
         arrivals::fcs,
         filter::filter,
         arrivals::room,
+        long::long,
     ];
     let mut out = std::io::stdout().lock();
     for part in parts {
