@@ -1,6 +1,8 @@
 // The checksum of IEEE 802.3 over bytes: the FCS, "the FCS fits", and the hash (01, An arriving frame). Each is proved equal to its
 // bitwise definition in specs/Checksum of `paper`. Eight bytes a turn, by a table of 1 KB; since a constant array lies on the stack of
 // the function that names it, only `register_of` names it, and lends it to the functions inside.
+#![tactic(auto)]
+
 mod rows;
 
 ghost use Rattle.std.specs.Prelude.{◌≡◌, reverse, ◌+◌, ◌*◌, ◌≤◌, ◌<◌, ◌%◌, length, take, drop};

@@ -1,4 +1,6 @@
 // Shows the fresh state and the receive filter's 32 settings, as the proved code gives them.
+#![tactic(auto)]
+
 use libc::STDOUT_FILENO;
 use paper::{Rule, Setting, State};
 

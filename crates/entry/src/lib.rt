@@ -1,6 +1,8 @@
 // The test that every call makes first: 14, then the ranges of 15 (01, Refusal numbers: "Order: 14, 15 (ranges), then …").
 //   values    the register values that a write accepts
 //   port      what the transmit port holds
+#![tactic(auto)]
+
 ghost use Rattle.std.specs.Prelude.{◌≡◌, ◌≤◌};
 ghost use Rattle.paper.specs.Refusals.{ring_in_range, rings_in_range, whole_in_range, in_range};
 ghost use Rattle.entry.specs.Entry.{entry_of};
@@ -11,7 +13,7 @@ pub mod port;
 pub mod values;
 
 // What the test answers: the call may go on, or is refused so.
-#[derive(Drop)]
+#[derive(Clone, Copy)]
 pub enum Entry {
     Clear,
     Shut(Refusal),

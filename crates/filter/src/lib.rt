@@ -1,5 +1,7 @@
 // The receive filter: the table of the 32 settings, and what it says of a frame (paper 01, An arriving frame, "Filter"). A frame is lent whole and has at
 // least 14 bytes; the filter looks at the first six of them.
+#![tactic(auto)]
+
 ghost use Rattle.std.specs.Prelude.{◌≡◌, ◌≤◌, ◌<◌, length, take, get_or};
 ghost use Rattle.paper.specs.Words.{if◌then◌else◌, bit, same};
 ghost use Rattle.paper.specs.Registers.{settings, setting_of};

@@ -121,13 +121,13 @@ buffers_read zero (last fine ends) enough rest = absurd (not-suc-le-zero enough)
 buffers_read zero (more fine goes others) enough rest = absurd (not-suc-le-zero enough)
 buffers_read {b = b} {sizes = sizes} (suc most) (last {x = x} fine ends) enough rest =
     rw (fine.begun.good, append_assoc (kept_of x.a x.words) [] rest, buffer_read most b sizes x rest fine.begun.agree fine.full, ends)
-buffers_read {b = b} {sizes = sizes} (suc most) (more {x = x} {xs = xs} fine goes others) enough rest =
+buffers_read {is_open = is_open} {b = b} {sizes = sizes} (suc most) (more {x = x} {xs = xs} fine goes others) enough rest =
     rw (
       fine.begun.good,
       append_assoc (kept_of x.a x.words) (laid_later xs) rest,
       buffer_read most b sizes x (laid_later xs ++ rest) fine.begun.agree fine.full,
       goes,
-      buffers_read most others (omega arith) rest,
+      buffers_read {is_open = true} most others (omega arith) rest,
     )
 
 -- ---- The first buffer, with the first B

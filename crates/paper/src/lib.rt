@@ -1,10 +1,12 @@
 // The types of paper 01, the register defaults and the fresh state.
 // What they mean is said in specs/; the functions here are proved equal to it.
+#![tactic(auto)]
+
 ghost use Rattle.std.specs.Prelude.{◌≡◌};
 ghost use Rattle.paper.specs.Fresh.{fresh_state};
 
 // The registers: n is TX_FIF_SZ, drops is RX_DROP, the others are those of the MAC.
-#[derive(Drop)]
+#[derive(Clone, Copy)]
 pub struct Registers {
     pub n: u32,
     pub maccr: u32,
@@ -16,14 +18,14 @@ pub struct Registers {
 }
 
 // A FIFO in the lent memory: the place of its oldest word, and how many words wait.
-#[derive(Drop)]
+#[derive(Clone, Copy)]
 pub struct Ring {
     pub at: u32,
     pub count: u32,
 }
 
 // The packet that the port is taking in: none; open with its first B to come; or with that B and the sizes so far.
-#[derive(Drop)]
+#[derive(Clone, Copy)]
 pub enum Packet {
     Closed,
     Opened,
@@ -31,7 +33,7 @@ pub enum Packet {
 }
 
 // What the port expects next.
-#[derive(Drop)]
+#[derive(Clone, Copy)]
 pub enum Expect {
     CommandA(Packet),
     CommandB { a: u32, packet: Packet },
@@ -39,20 +41,20 @@ pub enum Expect {
 }
 
 // The transmit port: what it expects, whether a transmit error stands, how many whole packets wait.
-#[derive(Drop)]
+#[derive(Clone, Copy)]
 pub struct Port {
     pub expect: Expect,
     pub failed: bool,
     pub whole: u32,
 }
 
-#[derive(Drop)]
+#[derive(Clone, Copy)]
 pub struct Control {
     pub registers: Registers,
     pub port: Port,
 }
 
-#[derive(Drop)]
+#[derive(Clone, Copy)]
 pub struct State {
     pub control: Control,
     pub txdata: Ring,
@@ -62,7 +64,7 @@ pub struct State {
 }
 
 // The rule that a setting of the five mode bits gives for an address.
-#[derive(Drop)]
+#[derive(Clone, Copy)]
 pub enum Rule {
     Equal,
     NotEqual,
@@ -71,21 +73,21 @@ pub enum Rule {
 }
 
 // A setting of the five mode bits: undefined, or the rules for group and individual addresses.
-#[derive(Drop)]
+#[derive(Clone, Copy)]
 pub enum Setting {
     Undefined,
     Defined { group: Rule, individual: Rule },
 }
 
 // What the room test answers.
-#[derive(Drop)]
+#[derive(Clone, Copy)]
 pub enum Room {
     Fits,
     Short,
 }
 
 // The refusals, in the order of their numbers, 1 to 15.
-#[derive(Drop)]
+#[derive(Clone, Copy)]
 pub enum Refusal {
     ArrivingLength,
     OtherBits,
@@ -105,14 +107,14 @@ pub enum Refusal {
 }
 
 // The answer of a call.
-#[derive(Drop)]
+#[derive(Clone, Copy)]
 pub enum Answer {
     Value(u32),
     Refused(Refusal),
 }
 
 // The answer to an arriving frame.
-#[derive(Drop)]
+#[derive(Clone, Copy)]
 pub enum Arrival {
     Refused(Refusal),
     Ignored,
@@ -123,21 +125,21 @@ pub enum Arrival {
 }
 
 // What a call answers, with the state after it.
-#[derive(Drop)]
+#[derive(Clone, Copy)]
 pub struct Reply {
     pub answer: Answer,
     pub state: State,
 }
 
 // What an arriving frame is answered, with the state after it.
-#[derive(Drop)]
+#[derive(Clone, Copy)]
 pub struct Arrived {
     pub answer: Arrival,
     pub state: State,
 }
 
 // An answer in numbers: the refusal's number, 0 for none, and the value.
-#[derive(Drop)]
+#[derive(Clone, Copy)]
 pub struct Said {
     pub refusal: u32,
     pub value: u32,

@@ -1,6 +1,8 @@
 // The host's reads of RX data and of the RX and TX statuses, for a state that passed the entry test (paper 01, Memory, and refusal 11). The memory is only
 // read. Each answers the oldest word of its FIFO, or refusal 11 where none waits; a pop, and a read of RX data, takes that word, a peek leaves it.
 //   source    the FIFOs that are read
+#![tactic(auto)]
+
 ghost use Rattle.std.specs.Prelude.{◌≡◌, ◌+◌, ◌<◌, length, get_or};
 ghost use Rattle.paper.specs.Calls.{RxDataRead, RxStatusPop, RxStatusPeek, TxStatusPop, TxStatusPeek};
 ghost use Rattle.paper.specs.Promises.{told, told_of};

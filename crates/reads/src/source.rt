@@ -8,7 +8,7 @@ use paper::{Ring, State};
 use rings::split;
 
 // The FIFOs that the host reads, a word a call. TX data is none of them: no call reads it, and sending takes its words a packet at a time.
-#[derive(Drop)]
+#[derive(Clone, Copy)]
 pub enum Source {
     TxStatus,
     RxData,
@@ -16,14 +16,14 @@ pub enum Source {
 }
 
 // The FIFOs at which the host peeks: those of the statuses. No call peeks at RX data.
-#[derive(Drop)]
+#[derive(Clone, Copy)]
 pub enum Status {
     Tx,
     Rx,
 }
 
 // A part of the lent memory: its first word, and its words.
-#[derive(Drop)]
+#[derive(Clone, Copy)]
 pub struct Part {
     pub base: u32,
     pub size: u32,

@@ -2,6 +2,8 @@
 // written before all of it is known to fit.
 //   judge     the seven lines
 //   status    the RX status
+#![tactic(auto)]
+
 mod judge;
 mod status;
 

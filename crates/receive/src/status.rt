@@ -11,7 +11,7 @@ use words::fields::bit_is_set;
 use words::status::{Marks, rx_status};
 
 // What the destination says of a frame: the filter said no; broadcast; group and no broadcast.
-#[derive(Drop)]
+#[derive(Clone, Copy)]
 pub struct Kind {
     pub miss: bool,
     pub broadcast: bool,

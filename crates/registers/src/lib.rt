@@ -3,6 +3,8 @@
 //   mac       the MAC registers by number
 //   allowed   whether setting n, or a dump, is allowed now
 //   replies   a reply, and the state with another part
+#![tactic(auto)]
+
 ghost use Rattle.std.specs.Prelude.{◌≡◌, length};
 ghost use Rattle.paper.specs.Memory.{words_lent};
 ghost use Rattle.paper.specs.Calls.{Reset, MacWrite, MacRead, SetSplit, Split, RxFifoInf, TxFifoInf, RxDrop, DumpTxData, DumpTxStatus, DumpRx};

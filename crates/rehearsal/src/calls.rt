@@ -5,7 +5,7 @@ use crate::{frames, lines, trials};
 use paper::{Reply, State};
 
 // What stands before a call's name.
-#[derive(Drop)]
+#[derive(Clone, Copy)]
 pub enum Prefix {
     Memory(usize),
     Both,

@@ -91,7 +91,7 @@ fn registers(s: State, mem: &[u32]) {
 }
 
 // One of the four FIFOs.
-#[derive(Drop)]
+#[derive(Clone, Copy)]
 enum Fifo {
     TxData,
     TxStatus,

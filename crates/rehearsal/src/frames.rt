@@ -5,7 +5,7 @@ ghost use Rattle.std.specs.Prelude.{◌≤◌, length};
 pub type Space = [u8; 2049];
 
 // The destination of a frame: our address, another station's, ours with the group bit, two group addresses, or broadcast.
-#[derive(Drop)]
+#[derive(Clone, Copy)]
 pub enum To {
     Ours,
     Other,

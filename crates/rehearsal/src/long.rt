@@ -6,7 +6,7 @@ use crate::{digests, frames, lines, settings, trials};
 use paper::{Answer, Reply, State};
 
 // The state, what the page calls x, and the digest of all answers so far.
-#[derive(Drop)]
+#[derive(Clone, Copy)]
 struct Run {
     state: State,
     x: u32,

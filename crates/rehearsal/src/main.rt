@@ -13,6 +13,8 @@
 //   filters    part `filter`
 //   room       part `room`
 //   long       part `long`
+#![tactic(auto)]
+
 mod arrivals;
 mod calls;
 mod digests;

@@ -75,7 +75,7 @@ fn takes(round: usize, s: State, mem: &mut Memory, space: &mut Space) -> State {
 }
 
 // A state, and the digest of the words read so far.
-#[derive(Drop)]
+#[derive(Clone, Copy)]
 struct Read {
     state: State,
     digest: u32,

@@ -1,5 +1,7 @@
 // One FIFO in the lent memory, as a ring: size words from word base on, of which count wait, the oldest at place at. Paper 01, Memory.
 // A ring goes in by value, and the ring after the change comes back. split.rt has the four sizes and first words.
+#![tactic(auto)]
+
 ghost use Rattle.std.specs.Prelude.{◌≡◌, [], ◌∷◌, ◌+◌, ◌<◌, length, get_or};
 ghost use Rattle.paper.specs.Memory.{place, puts, takes, ring_after};
 ghost use Rattle.paper.specs.Arrivals.{words_for, data_words};

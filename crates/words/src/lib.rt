@@ -3,6 +3,8 @@
 //   fields    the fields of commands A and B, the words of a buffer, the tests of both, the words with few bits, the five mode bits
 //   status    the RX and TX status words, RX_FIFO_INF and TX_FIFO_INF
 //   bytes     words from bytes
+#![tactic(auto)]
+
 pub mod bytes;
 pub mod fields;
 pub mod status;

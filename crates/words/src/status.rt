@@ -8,7 +8,7 @@ ghost use Rattle.words.specs.Status.{has_error, outcome_error, status_of, TxLeve
 use crate::fields::{bit_is_set, tag};
 
 // The marks of an RX status but its error mark, which follows from them.
-#[derive(Drop)]
+#[derive(Clone, Copy)]
 pub struct Marks {
     pub miss: bool,
     pub broadcast: bool,
