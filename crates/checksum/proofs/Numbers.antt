@@ -8,6 +8,7 @@
 --   bits_of-number_of              the k low bits of a list's number are its first k
 --   number_of_six                 the number of six bits turned round
 -- Assumes nothing.
+use Rattle.std.specs.Prelude.{if◌then◌else◌}
 use mathlib.Core.Path.{◌≡◌, refl, sym, ap, ap₂, ◌∙◌}
 use mathlib.Core.Bool.{Bool, true, false, not, xor}
 use mathlib.Core.List.{List, [], ◌∷◌, map, reverse}
@@ -19,7 +20,6 @@ use lib.Bits.{bit_xor, differ, xor_step, xor_zero_l, xor_zero_r}
 use lib.Dec.{eqb}
 use lib.ListN.{length, take, replicate}
 use lib.Pow.{pow_pos, shr-shr}
-use Rattle.paper.specs.Words.{if◌then◌else◌}
 use Rattle.paper.specs.Checksum.{plus, bits_of, number_of}
 use Rattle.checksum.proofs.Xor.{two_pos}
 
@@ -29,13 +29,11 @@ worth b = if b then 1 else 0
 
 -- It is a digit.
 pub worth_lt : (b : Bool) → worth b < 2
-unfolding if◌then◌else◌
 worth_lt true = omega arith
 worth_lt false = omega arith
 
 -- The lowest bit of x is worth x % 2.
 worth_lowest : (x : ℕ) → worth (eqb (x % 2) 1) ≡ x % 2
-unfolding if◌then◌else◌
 worth_lowest x = digit (x % 2) (mod-lt x two_pos)
   where
     digit : (d : ℕ) → d < 2 → worth (eqb d 1) ≡ d
@@ -45,13 +43,12 @@ worth_lowest x = digit (x % 2) (mod-lt x two_pos)
 
 -- A bit is that of its number.
 bit_worth : (b : Bool) → eqb (worth b) 1 ≡ b
-unfolding if◌then◌else◌
 bit_worth true = refl
 bit_worth false = refl
 
 -- The sum of two bits.
 pub worth_xor : (a b : Bool) → worth (xor a b) ≡ differ (worth a) (worth b)
-unfolding xor if◌then◌else◌
+unfolding xor
 worth_xor true true = refl
 worth_xor true false = refl
 worth_xor false true = refl

@@ -4,6 +4,7 @@
 --   length-feeds, crc32-length       the register keeps its length; that of 802.3 has 32 bits
 --   fcs_register, hash_register      the FCS and the hash from the register's number
 -- Assumes nothing.
+use Rattle.std.specs.Prelude.{if◌then◌else◌}
 use mathlib.Core.Path.{◌≡◌, refl, sym, ap, ap₂, ◌∙◌}
 use mathlib.Core.Bool.{Bool, true, false, xor}
 use mathlib.Core.List.{List, [], ◌∷◌, ◌++◌, reverse}
@@ -13,7 +14,6 @@ use native.Mathlib.Numerals.{add-one}
 use native.Mathlib.Omega.{arith}
 use lib.Bits.{bit_xor, differ, xor_comm, xor_zero_r, xor_shifted}
 use lib.ListN.{length, length-append, replicate}
-use Rattle.paper.specs.Words.{if◌then◌else◌}
 use Rattle.paper.specs.Checksum.{plus, highest, times_x, feed, feeds, bits_of, number_of, wire, generator, crc32, fcs, hash}
 use Rattle.checksum.specs.Register.{step, steps, run, reflected}
 use Rattle.checksum.proofs.Xor.{xor_half, xor_odd, xor_assoc}
@@ -23,7 +23,7 @@ use Rattle.checksum.proofs.Numbers.{number_of_not, number_of-bits_of, bits_of-le
 
 -- A zero at the end adds nothing.
 number_of-zero : (t : List Bool) → number_of (t ++ (false ∷ [])) ≡ number_of t
-unfolding number_of if◌then◌else◌
+unfolding number_of
 number_of-zero [] = refl
 number_of-zero (b ∷ t) = ap (λ (x : ℕ). worth b + x * 2) (number_of-zero t)
 
@@ -35,25 +35,22 @@ number_of-times_x (h ∷ t) = number_of-zero t ∙ sym (number_of_half h t)
 
 -- The highest coefficient is the lowest bit.
 worth_highest : (r : List Bool) → worth (highest r) ≡ number_of r % 2
-unfolding number_of if◌then◌else◌
+unfolding number_of
 worth_highest [] = refl
 worth_highest (h ∷ t) = sym (number_of_odd h t)
 
 -- The generator is taken off, or not.
 number_of_choice : (b : Bool) (g r : List Bool) → number_of (if b then plus r g else r) ≡ bit_xor (number_of r) (worth b * number_of g)
-unfolding if◌then◌else◌
 number_of_choice true g r = number_of-plus r g ∙ ap (bit_xor (number_of r)) (sym (one-mul (number_of g)))
 number_of_choice false g r = sym (ap (bit_xor (number_of r)) (zero-mul (number_of g)) ∙ xor_zero_r (number_of r))
 
 -- Above a bit there is nothing.
 worth_half : (b : Bool) → worth b / 2 ≡ 0
-unfolding if◌then◌else◌
 worth_half true = refl
 worth_half false = refl
 
 -- A bit is its own lowest bit.
 worth_odd : (b : Bool) → worth b % 2 ≡ worth b
-unfolding if◌then◌else◌
 worth_odd true = refl
 worth_odd false = refl
 
@@ -103,12 +100,12 @@ run-feeds g r (b ∷ s) =
 
 -- The generator of 802.3 as a number; computed.
 number_of-generator : number_of generator ≡ reflected
-unfolding number_of generator bits_of if◌then◌else◌
+unfolding number_of generator bits_of
 number_of-generator = refl
 
 -- The register all ones as a number; computed.
 number_of_ones : number_of (replicate 32 true) ≡ 0xFFFF_FFFF
-unfolding number_of if◌then◌else◌
+unfolding number_of
 number_of_ones = refl
 
 -- The register of 802.3 after the bytes s.
@@ -132,7 +129,6 @@ length-times_x (h ∷ t) = length-append t (false ∷ []) ∙ add-one (length t)
 
 -- With the generator taken off or not, it keeps its length.
 length_choice : (b : Bool) (g r : List Bool) → length g ≤ length r → length (if b then plus r g else r) ≡ length r
-unfolding if◌then◌else◌
 length_choice true g r h = length-plus r g h
 length_choice false g r h = refl
 

@@ -2,6 +2,7 @@
 --   entered               a state and memory that passed it
 --   told_shut             what a call's contract comes to where it did not pass: the refusal, with state and memory as they were
 -- Assumes nothing.
+use Rattle.std.specs.Prelude.{if◌then◌else◌}
 use mathlib.Core.Path.{◌≡◌, refl, sym, subst}
 use mathlib.Core.Bool.{Bool, true, false, not}
 use mathlib.Core.List.{List, []}
@@ -13,7 +14,6 @@ use Rattle.paper.specs.declared.State.{State}
 use Rattle.paper.specs.declared.Refusal.{Refusal}
 use Rattle.paper.specs.declared.Refusal.TheVariants.{MemoryLength, OutOfRange}
 use Rattle.paper.specs.declared.Answer.TheVariants.{Refused}
-use Rattle.paper.specs.Words.{if◌then◌else◌}
 use Rattle.paper.specs.Memory.{words_lent}
 use Rattle.paper.specs.Refusals.{in_range}
 use Rattle.paper.specs.Calls.{Call, is_reset, lends}
@@ -29,7 +29,6 @@ answers long range = if not long then Shut MemoryLength else if not range then S
 
 -- A test that is clear had both parts hold.
 clear_both : (long range : Bool) → answers long range ≡ Clear → (long ≡ true) × (range ≡ true)
-unfolding if◌then◌else◌
 clear_both false range e = ((cc), (cc))
 clear_both true false e = (refl, (cc))
 clear_both true true e = (refl, refl)
@@ -43,7 +42,6 @@ entered s m e =
 -- A call that did not pass is refused so, and changes nothing.
 pub told_shut : (c : Call) (s : State) (m : List ℕ) (k : Refusal) → is_reset c ≡ false → lends c ≡ [] → entry_of s (length m) ≡ Shut k
     → told_of c s m ≡ told (Refused k) s m
-unfolding if◌then◌else◌
 told_shut c s m k other lent e = by_cases (eqb (length m) words_lent) refl (in_range s) refl e
   where
     by_cases : (long : Bool) → eqb (length m) words_lent ≡ long → (range : Bool) → in_range s ≡ range → answers long range ≡ Shut k

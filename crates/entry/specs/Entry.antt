@@ -2,10 +2,9 @@
 --   entry_of s len         what the test answers, for a state and the number of words lent
 --   Entered s m           what a state and a lent memory that passed it keep to
 -- Assumes nothing.
-use Rattle.std.specs.Prelude.{◌≡◌, true, not, List, ℕ, eqb, length}
+use Rattle.std.specs.Prelude.{if◌then◌else◌, ◌≡◌, true, not, List, ℕ, eqb, length}
 use Rattle.paper.specs.declared.State.{State}
 use Rattle.paper.specs.declared.Refusal.TheVariants.{MemoryLength, OutOfRange}
-use Rattle.paper.specs.Words.{if◌then◌else◌}
 use Rattle.paper.specs.Memory.{words_lent}
 use Rattle.paper.specs.Refusals.{in_range}
 use Rattle.entry.specs.declared.Entry.{Entry}

@@ -2,8 +2,8 @@
 // least 14 bytes; the filter looks at the first six of them.
 #![tactic(auto)]
 
-ghost use Rattle.std.specs.Prelude.{◌≡◌, ◌≤◌, ◌<◌, length, take, get_or};
-ghost use Rattle.paper.specs.Words.{if◌then◌else◌, bit, same};
+ghost use Rattle.std.specs.Prelude.{if◌then◌else◌, ◌≡◌, ◌≤◌, ◌<◌, length, take, get_or};
+ghost use Rattle.paper.specs.Words.{bit, same};
 ghost use Rattle.paper.specs.Registers.{settings, setting_of};
 ghost use Rattle.paper.specs.Filter.{
   destination,

@@ -6,12 +6,12 @@
 --   bare_control, bare_taken, bare_length, bare_txstatus, bare_rxstatus    a bare ledger implies the same control state, levels and statuses
 --   if_alike              choices that are alike branch by branch are alike
 -- Assumes nothing.
+use Rattle.std.specs.Prelude.{if◌then◌else◌}
 use mathlib.Core.Path.{◌≡◌, refl, sym, ap, ◌∙◌}
 use mathlib.Core.Bool.{Bool, true, false}
 use mathlib.Core.List.{List, [], ◌∷◌, ◌++◌, map, map-map, map-append}
 use Prim.Native.Nat.{ℕ, zero, suc}
 use lib.ListN.{length, take, replicate, length-append, length-take, length-drop, length-replicate, length-map}
-use Rattle.paper.specs.Words.{if◌then◌else◌}
 use Rattle.paper.specs.Memory.{Fifo, TxData, TxStatus, RxData, RxStatus}
 use Rattle.paper.specs.Ledger.{Frame, Written, Whole, Taking, Nothing, FirstA, Between, LaterA, Filling, Received, Wrote, Ledger, kept_of, laid_later, laid_first, laid_all, laid_so_far, all_words, put, taken}
 use Rattle.paper.proofs.Counts.{data_words-length}
@@ -20,7 +20,6 @@ use Rattle.paper.proofs.Kept.{sizes_of, expect_of, control_of}
 -- Choices that are alike branch by branch are alike.
 pub if_alike : {A B : Type 0} (f : A → B) (t : Bool) {x y x' y' : A} → (t ≡ true → f x ≡ f x') → (t ≡ false → f y ≡ f y')
     → f (if t then x else y) ≡ f (if t then x' else y')
-unfolding if◌then◌else◌
 if_alike f true e e' = e refl
 if_alike f false e e' = e' refl
 

@@ -7,6 +7,8 @@ use mathlib.Core.List.{List, [], ◌∷◌}
 use Prim.Native.Nat.{ℕ, ◌-◌}
 use native.Mathlib.Nat.{add-zero}
 use native.Mathlib.Omega.{arith}
+use lib.Dec.{eqb}
+use mathlib.Core.Bool.{false}
 use lib.ListN.{length, get_or, length-drop}
 use lib.Seq.{get_or-drop}
 use borrow.Author.Tests.{eqb-false}
@@ -85,8 +87,8 @@ module _ {l l' : Ledger} {w w' : World} (h : Kept l w) (h' : Kept l' w') (e : Al
   -- So is sending.
   send_told : (outcome out : ℕ) → (send outcome out (control_of l) (waits w)).answer ≡ (send outcome out (control_of l) (waits w')).answer
   send_told outcome out =
-      if_alike (λ (a : Act). a.answer) _ (λ _. refl) (λ _. if_alike (λ (a : Act). a.answer) _ (λ _. refl)
-      (λ _. if_alike (λ (a : Act). a.answer) _ (λ _. refl) (λ t. sends_told outcome out _ (eqb-false _ _ t))))
+      let last = λ (t : eqb (control_of l).port.whole 0 ≡ false). sends_told outcome out ((control_of l).port.whole - 1) (eqb-false _ _ t) in
+      grind (arith, last)
 
   -- The next data word is equal where it is of frames with equal bytes.
   next_alike : source l ≡ source l' → get_or (waits w).rxdata 0 0 ≡ get_or (waits w').rxdata 0 0

@@ -4,6 +4,7 @@
 --   head_kept             where a whole packet waits, the head packet is found with this B
 --   sends_alike           two head packets with one first B are answered equally
 -- Assumes nothing.
+use native.Mathlib.Omega.{arith}
 use mathlib.Core.Path.{◌≡◌, refl, sym, ap, ◌∙◌}
 use mathlib.Core.List.{List, [], ◌∷◌, map}
 use Prim.Native.Nat.{ℕ, ◌-◌}
@@ -47,7 +48,5 @@ unfolding sends
 sends_alike q q' b xs xs' e e' outcome out statuses whole k =
     let h = head_fits q b xs e in
     let h' = head_fits q' b xs' e' in
-    rw (e, e')
-    (if_alike (λ (a : Act). a.answer) _ (λ _. refl)
-    (λ _. if_alike (λ (a : Act). a.answer) _ (λ _. refl)
-    (λ _. ap Value (frame_length b (sent_bytes xs) h.bytes ∙ sym (frame_length b (sent_bytes xs') h'.bytes)))))
+    rw (e, e', frame_length b (sent_bytes xs) h.bytes, frame_length b (sent_bytes xs') h'.bytes)
+    (grind arith)

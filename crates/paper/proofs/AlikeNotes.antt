@@ -3,6 +3,7 @@
 --   payload_note, content_note    a payload word, or the content of a frame, may be another
 --   next_bare             the first B of the packet to be sent next is no content
 -- Assumes nothing.
+use native.Mathlib.Omega.{arith}
 use mathlib.Core.Path.{◌≡◌, refl, sym, ap, ◌∙◌}
 use mathlib.Core.List.{List, [], ◌∷◌, ◌++◌, map, map-append}
 use Prim.Native.Nat.{ℕ, zero, suc}
@@ -28,7 +29,7 @@ filled_bare : (b : ℕ) (xs : List Written) (a : ℕ) (ws vs : List ℕ) (x : Wr
     → bare_wrote (filled b xs a ws x) ≡ bare_wrote (filled b (map bare_buffer xs) a vs (bare_wrote x))
 unfolding bare_taking
 filled_bare b xs a ws vs x e =
-    rw e (if_alike bare_wrote _ (λ _. simp (bare-laws, e)) (λ _. if_alike bare_wrote _ (λ _. simp (bare-laws, e)) (λ _. simp (bare-laws, e))))
+    rw e (grind (arith, bare-laws, e))
 
 -- A word more in a ledger and in its bare one.
 word_bare : (w : ℕ) (t : Taking) (x : Wrote) → bare_wrote (wrote_word w t x) ≡ bare_wrote (wrote_word w (bare_taking t) (bare_wrote x))
@@ -62,7 +63,7 @@ entered_bare RxDrop v l = simp bare-laws
 entered_bare DumpTxData v l = simp bare-laws
 entered_bare DumpTxStatus v l = simp bare-laws
 entered_bare DumpRx v l = simp bare-laws
-entered_bare (Arrive frame flags) v l = if_alike bare _ (λ _. simp bare-laws) (λ _. if_alike bare _ (λ _. simp bare-laws) (λ _. simp bare-laws))
+entered_bare (Arrive frame flags) v l = grind (arith, bare-laws)
 entered_bare RxDataRead v l = simp bare-laws
 entered_bare RxStatusPop v l = simp bare-laws
 entered_bare RxStatusPeek v l = simp bare-laws

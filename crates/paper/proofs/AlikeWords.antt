@@ -1,6 +1,7 @@
 -- The data words of frames that are alike: word i is equal where it is of frames with equal bytes.
 --   word_alike            this
 -- Assumes nothing.
+use Rattle.std.specs.Prelude.{if◌then◌else◌}
 use mathlib.Core.Path.{◌≡◌, refl, sym, ap, ◌∙◌}
 use mathlib.Core.Bool.{Bool, true, false}
 use mathlib.Core.List.{List, [], ◌∷◌, ◌++◌, map}
@@ -10,7 +11,6 @@ use lib.Dec.{ltb}
 use lib.ListN.{length, get_or, get_or-append}
 use lib.Seq.{get_or-append-add}
 use borrow.Author.Tests.{ltb-true, ltb-false}
-use Rattle.paper.specs.Words.{if◌then◌else◌}
 use Rattle.paper.specs.Arrivals.{data_words}
 use Rattle.paper.specs.Ledger.{Frame, all_words}
 use Rattle.paper.specs.Twins.{frame_at}
@@ -20,7 +20,7 @@ use Rattle.paper.proofs.Alike.{zeros_length, bare_frame}
 -- Word i of frames is of the first, or of the others.
 word_of : (f : Frame) (fs : List Frame) (i n : ℕ) → length (data_words f.bytes) ≡ n
     → get_or (all_words (f ∷ fs)) i 0 ≡ (if ltb i n then get_or (data_words f.bytes) i 0 else get_or (all_words fs) (i - n) 0)
-unfolding all_words if◌then◌else◌
+unfolding all_words
 word_of f fs i n e = by_cases (ltb i n) refl
   where
     by_cases : (t : Bool) → ltb i n ≡ t
@@ -37,7 +37,7 @@ bytes_alike f g e = sym (zeros_length f.bytes) ∙ ap (λ (x : Frame). length x.
 -- Of frames that are alike, word i is equal where it is of frames with equal bytes.
 pub word_alike : (fs gs : List Frame) (i : ℕ) → map bare_frame fs ≡ map bare_frame gs → frame_at i fs ≡ frame_at i gs
     → get_or (all_words fs) i 0 ≡ get_or (all_words gs) i 0
-unfolding frame_at if◌then◌else◌
+unfolding frame_at
 word_alike [] [] i e h = refl
 word_alike [] (g ∷ gs) i e h = cc
 word_alike (f ∷ fs) [] i e h = cc

@@ -4,6 +4,7 @@
 --   said_one_to_one       two answers said alike are the same
 --   arrival_one_to_one    two arrivals answered alike are the same
 -- Assumes nothing.
+use Rattle.std.specs.Prelude.{if◌then◌else◌}
 use mathlib.Core.Path.{◌≡◌, refl, sym, ap, ◌∙◌}
 use Prim.Native.Nat.{ℕ, ◌≤◌}
 use native.Mathlib.Omega.{arith}
@@ -14,7 +15,6 @@ use Rattle.paper.specs.declared.Answer.{Answer}
 use Rattle.paper.specs.declared.Answer.TheVariants.{Value, Refused}
 use Rattle.paper.specs.declared.Arrival.{Arrival}
 use Rattle.paper.specs.declared.Arrival.TheVariants.{Refused as RefusedArrival, Ignored, Discarded, Filtered, Dropped, Stored}
-use Rattle.paper.specs.Words.{if◌then◌else◌}
 use Rattle.paper.specs.Arrivals.{arrival_answer}
 use Rattle.paper.specs.Refusals.{number, said}
 
@@ -56,7 +56,7 @@ refusal_of k =
 
 -- The refusal with the number of r is r.
 refusal_number : (r : Refusal) → refusal_of (number r) ≡ r
-unfolding refusal_of if◌then◌else◌
+unfolding refusal_of
 refusal_number ArrivingLength = refl
 refusal_number OtherBits = refl
 refusal_number NoRegister = refl
@@ -98,7 +98,6 @@ arrival_of (Value v) =
 
 -- The arrival told of by the answer of a is a.
 arrival_answer_lem : (a : Arrival) → arrival_of (arrival_answer a) ≡ a
-unfolding if◌then◌else◌
 arrival_answer_lem (RefusedArrival r) = refl
 arrival_answer_lem Ignored = refl
 arrival_answer_lem Discarded = refl

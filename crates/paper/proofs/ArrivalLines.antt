@@ -7,6 +7,7 @@
 --   arrives_fits                  what an arrival puts fits
 --   passes_drops                  the filter does not look at RX_DROP
 -- Assumes nothing.
+use Rattle.std.specs.Prelude.{if◌then◌else◌}
 use mathlib.Core.Path.{◌≡◌, refl}
 use mathlib.Core.Logic.{◌≢◌}
 use mathlib.Core.Bool.{Bool, true, false, not, ◌&&◌, ◌||◌}
@@ -24,7 +25,6 @@ use Rattle.paper.specs.declared.Setting.TheVariants.{Undefined, Defined}
 use Rattle.paper.specs.declared.Control.{Control}
 use Rattle.paper.specs.declared.Arrival.{Arrival}
 use Rattle.paper.specs.declared.Arrival.TheVariants.{Refused as RefusedArrival, Ignored, Discarded, Filtered, Dropped, Stored}
-use Rattle.paper.specs.Words.{if◌then◌else◌}
 use Rattle.paper.specs.Memory.{RxData, RxStatus, size}
 use Rattle.paper.specs.Registers.{setting_of, with_drops}
 use Rattle.paper.specs.Filter.{passes_rule, passes_setting, passes, destination, is_group}
@@ -103,7 +103,7 @@ module _ (r : Registers) (words statuses : ℕ) (l : Look) where
 
   -- A frame that is due and for which line 6 applies is dropped.
   pub arrival_drops : Due r l → is_short words statuses l.len ≡ true → arrival r words statuses l ≡ Dropped
-  unfolding arrival room if◌then◌else◌
+  unfolding arrival room
   arrival_drops due t = rw (due.length_good, due.flags, due.receiving, due.not_discarded, not_filtered (passes r l.head) _ due.passed, t)
 
 -- What is answered to an arrival is its line.

@@ -4,31 +4,28 @@
 --   and_left, and_right, and_three, and_four, and_both, or_neither    what a joined test says of its parts
 --   mark_bound                    a mark is at most its bit
 -- Assumes nothing.
+use Rattle.std.specs.Prelude.{if◌then◌else◌}
 use mathlib.Core.Path.{◌≡◌, refl}
 use mathlib.Core.Bool.{Bool, true, false, ◌&&◌, ◌||◌}
 use Prim.Native.Nat.{ℕ, ◌≤◌, ◌^◌}
 use native.Mathlib.Omega.{arith}
-use Rattle.paper.specs.Words.{if◌then◌else◌, mark}
+use Rattle.paper.specs.Words.{mark}
 
 -- Where the test holds, the choice is its first branch.
-pub if_true {ℓ} : {A : Type ℓ} (x y : A) → (if true then x else y) ≡ x
-unfolding if◌then◌else◌
+pub if_true : {A : Type 0} (x y : A) → (if true then x else y) ≡ x
 if_true x y = refl
 
 -- Where the test fails, the choice is its second branch.
-pub if_false {ℓ} : {A : Type ℓ} (x y : A) → (if false then x else y) ≡ y
-unfolding if◌then◌else◌
+pub if_false : {A : Type 0} (x y : A) → (if false then x else y) ≡ y
 if_false x y = refl
 
 -- A choice between a thing and itself is that thing.
-pub if_same {ℓ} : {A : Type ℓ} (b : Bool) (x : A) → (if b then x else x) ≡ x
-unfolding if◌then◌else◌
+pub if_same : {A : Type 0} (b : Bool) (x : A) → (if b then x else x) ≡ x
 if_same true x = refl
 if_same false x = refl
 
 -- What holds of the first branch where the test holds, and of the second where it fails, holds of the choice.
-pub if_cases {ℓ} : {A : Type ℓ} (P : A → Type 0) (b : Bool) {x y : A} → (b ≡ true → P x) → (b ≡ false → P y) → P (if b then x else y)
-unfolding if◌then◌else◌
+pub if_cases : {A : Type 0} (P : A → Type 0) (b : Bool) {x y : A} → (b ≡ true → P x) → (b ≡ false → P y) → P (if b then x else y)
 if_cases P true f g = f refl
 if_cases P false f g = g refl
 

@@ -8,6 +8,7 @@
 --   levels_are            the words waiting, as numbers, are the rings' counts
 --   none_waits, oldest_waits    a FIFO with no word, and one with its oldest word
 -- Assumes nothing.
+use Rattle.std.specs.Prelude.{if◌then◌else◌}
 use mathlib.Core.Path.{◌≡◌, refl, ap, ◌∙◌}
 use mathlib.Core.Bool.{true, false}
 use mathlib.Core.List.{List, [], ◌∷◌}
@@ -18,7 +19,6 @@ use Rattle.paper.specs.declared.Control.{Control}
 use Rattle.paper.specs.declared.State.{State}
 use Rattle.paper.specs.declared.Refusal.TheVariants.{MemoryLength, OutOfRange}
 use Rattle.paper.specs.declared.Answer.TheVariants.{Refused}
-use Rattle.paper.specs.Words.{if◌then◌else◌}
 use Rattle.paper.specs.Memory.{words_lent, Fifo, TxData, TxStatus, RxData, RxStatus, Four, of, size, base, takes, ring_after, memory_after, waiting}
 use Rattle.paper.specs.Refusals.{in_range}
 use Rattle.paper.specs.Calls.{Call, is_reset, lends}
@@ -53,12 +53,12 @@ module _ (c : Call) (s : State) (m : List ℕ) where
 
   -- Memory that is not 4,096 words: 14.
   pub told_short : (length m ≡ words_lent → ⊥) → lends c ≡ [] → told_of c s m ≡ told (Refused MemoryLength) s m
-  unfolding act if◌then◌else◌
+  unfolding act
   told_short short lent = told_still (refuses MemoryLength s.control) (rw (ne_eqb (length m) words_lent short)) refl lent refl refl
 
   -- A state out of range: 15, but for reset.
   pub told_lost : length m ≡ words_lent → in_range s ≡ false → is_reset c ≡ false → lends c ≡ [] → told_of c s m ≡ told (Refused OutOfRange) s m
-  unfolding act if◌then◌else◌
+  unfolding act
   told_lost long lost other lent = told_still (refuses OutOfRange s.control) (rw (eq-eqb (length m) words_lent long, lost, other)) refl lent refl refl
 
   module _ (long : length m ≡ words_lent) (range : in_range s ≡ true) (lent : lends c ≡ []) where

@@ -6,6 +6,7 @@
 --   sent_length, frame_length, frame_fits                                          the length of the frame sent
 --   buffer_bytes-length, AllStored, HeadFits, head_fits                            the head packet: its bytes, its words, its first B
 -- Assumes nothing.
+use Rattle.std.specs.Prelude.{if◌then◌else◌}
 use mathlib.Core.Path.{◌≡◌, refl, sym, ap, subst, ◌∙◌}
 use mathlib.Core.Bool.{Bool, true, false, not, ◌&&◌, ◌||◌}
 use mathlib.Core.List.{List, [], ◌∷◌, ◌++◌, append-nil}
@@ -16,7 +17,7 @@ use lib.Dec.{ltb, leb, eqb}
 use lib.ListN.{length, get_or, take, drop, replicate, length-append, length-take, length-drop, length-replicate}
 use lib.Seq.{length-take-le}
 use borrow.Author.Tests.{ltb-true, ltb-false, leb-true, eqb-true, not-true, not-false, eqb-false}
-use Rattle.paper.specs.Words.{if◌then◌else◌, digit, bit, gathered, only_bits, word_at}
+use Rattle.paper.specs.Words.{digit, bit, gathered, only_bits, word_at}
 use Rattle.paper.specs.Registers.{setting_number, good_maccr, carried, is_defined, setting_of, rx_fifo_inf, tx_fifo_inf, one_more}
 use Rattle.paper.specs.Checksum.{fcs, with_fcs}
 use Rattle.paper.specs.Status.{Look, length_or_type, wrong_length, is_runt, is_long, is_error, collision, status}
@@ -75,7 +76,8 @@ stored_words_bound a = omega arith
 
 -- What holds for ends aligned to 4, 16 and 32 bytes holds for an A's.
 alignment_cases : (P : ℕ → Type 0) (a : ℕ) → P 4 → P 16 → P 32 → P (alignment a)
-alignment_cases P a four sixteen thirtytwo = if_cases P _ (λ _. four) (λ _. if_cases P _ (λ _. sixteen) (λ _. thirtytwo))
+alignment_cases P a four sixteen thirtytwo =
+    if_cases P (eqb (alignment_field a) 0) (λ _. four) (λ _. if_cases P (eqb (alignment_field a) 1) (λ _. sixteen) (λ _. thirtytwo))
 
 -- The words thrown away in front and those stored are among those that the host writes.
 pub stored_within : (a : ℕ) → front_words a + stored_words a ≤ host_words a
@@ -190,7 +192,7 @@ with_fcs-length s = length-append s _ ∙ ap (λ n. length s + n) (bytes_of-leng
 
 -- The frame sent has its length by the first B, where the packet has its own.
 pub frame_length : (b : ℕ) (bytes : List ℕ) → length bytes ≡ packet_length b → length (frame_of b bytes) ≡ sent_length b
-unfolding frame_of if◌then◌else◌
+unfolding frame_of
 frame_length b bytes h = by_cases (ltb (packet_length b) 60 && not (no_padding b)) refl (no_crc b)
   where
     by_cases : (short : Bool) → (ltb (packet_length b) 60 && not (no_padding b)) ≡ short → (bare : Bool)
@@ -205,7 +207,7 @@ frame_length b bytes h = by_cases (ltb (packet_length b) 60 && not (no_padding b
 
 -- The frame of a good first B has at most 1,518 bytes.
 pub frame_fits : (b : ℕ) (bytes : List ℕ) → good_length b ≡ true → length bytes ≡ packet_length b → length (frame_of b bytes) ≤ 1518
-unfolding good_length if◌then◌else◌
+unfolding good_length
 frame_fits b bytes good h =
     let most = leb-true _ _ (and_right (leb 1 (packet_length b)) _ good) in
     rw (frame_length b bytes h) (by_cases (ltb (packet_length b) 60 && not (no_padding b)) (no_crc b) most)
@@ -232,13 +234,11 @@ nothing_found e = absurd (let z : ◌≡◌ {A = ℕ} 0 1 = cc in omega arith)
 
 -- A choice that found a packet did not choose none.
 found_else : (t : Bool) (h : Head) (b : ℕ) (xs : List Buffer) → (if t then NoPacket else h) ≡ Found b xs → (t ≡ false) × (h ≡ Found b xs)
-unfolding if◌then◌else◌
 found_else true h b xs e = (cc, cc)
 found_else false h b xs e = (refl, e)
 
 -- A choice that found a packet chose it.
 found_then : (t : Bool) (h : Head) (b : ℕ) (xs : List Buffer) → (if t then h else NoPacket) ≡ Found b xs → (t ≡ true) × (h ≡ Found b xs)
-unfolding if◌then◌else◌
 found_then true h b xs e = (refl, e)
 found_then false h b xs e = (cc, cc)
 
@@ -268,7 +268,7 @@ module _ (b sizes a : ℕ) (q : List ℕ) (agree : sizes_agree a b sizes ≡ tru
 
   -- The Last buffer ends the packet.
   last_behind : is_last a ≡ true → Behind sizes q b b (buffer ∷ [])
-  unfolding sizes_agree sent_bytes freed if◌then◌else◌
+  unfolding sizes_agree sent_bytes freed
   last_behind last =
       let whole : sizes + buffer_size a ≡ packet_length b = eqb-true _ _ (rw last at agree) in
       record {
@@ -296,7 +296,6 @@ module _ (b sizes a : ℕ) (q : List ℕ) (agree : sizes_agree a b sizes ≡ tru
       → ((later : ℕ) (rest : List ℕ) → on later rest ≡ Found b' ys → Behind (sizes + buffer_size a) rest b b' ys)
       → (if is_last a then Found b [] else from_a true on (drop (stored_words a) q)) ≡ Found b' ys
       → Behind sizes q b b' (buffer ∷ ys)
-  unfolding if◌then◌else◌
   buffer_behind on b' ys others e = by_cases (is_last a) refl (drop (stored_words a) q) refl e
     where
       by_cases : (last : Bool) → is_last a ≡ last → (r : List ℕ) → drop (stored_words a) q ≡ r

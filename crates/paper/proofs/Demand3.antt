@@ -3,6 +3,7 @@
 --   allowed_met           every pair of calls that is allowed gives this
 --   demand_3, support_log    the theorems
 -- Assumes nothing.
+use native.Mathlib.Omega.{arith}
 use mathlib.Core.Path.{◌≡◌, refl, sym, ap, ap₂, subst, ◌∙◌}
 use mathlib.Core.Bool.{Bool, true}
 use mathlib.Core.List.{List, [], ◌∷◌, ◌++◌}
@@ -12,7 +13,6 @@ use Rattle.paper.specs.declared.Control.{Control}
 use Rattle.paper.specs.declared.Refusal.TheVariants.{ErrorStands}
 use Rattle.paper.specs.declared.Answer.{Answer}
 use Rattle.paper.specs.declared.Answer.TheVariants.{Value, Refused}
-use Rattle.paper.specs.Words.{if◌then◌else◌}
 use Rattle.paper.specs.Memory.{Four}
 use Rattle.paper.specs.Status.{Look, look}
 use Rattle.paper.specs.Arrivals.{data_words}
@@ -60,15 +60,14 @@ told_met l l' e (word {a} {a'} b s) =
 
 -- Where a transmit error stands, a word is refused with 6.
 error_stands : (free : Bool) (p : Port) (u : ℕ) → p.failed ≡ true → (port_takes free p u).answer ≡ Refused ErrorStands
-unfolding port_takes if◌then◌else◌
+unfolding port_takes
 error_stands free p u e = rw e
 
 -- Where a payload word is due, the answer does not depend on it.
 payload_answer : (free : Bool) (p : Port) (u v : ℕ) → Payload p → (port_takes free p u).answer ≡ (port_takes free p v).answer
 unfolding port_takes takes_expected takes_payload
 payload_answer free p u v (counted a more k e) =
-    if_alike (λ (t : Turn). t.answer) p.failed (λ _. refl)
-    (λ _. rw e (if_alike (λ (t : Turn). t.answer) _ (λ _. if_alike (λ (t : Turn). t.answer) free (λ _. refl) (λ _. refl)) (λ _. refl)))
+    rw e (grind arith)
 payload_answer free p u v (refused e) = error_stands free p u e ∙ sym (error_stands free p v e)
 
 -- Nor does what is noted.
@@ -116,7 +115,7 @@ module _ {l l' : Ledger} {w w' : World} (h : Kept l w) (h' : Kept l' w') (e : Al
 
 -- An arrival that goes unheard is not noted.
 unheard_note : (f : List ℕ) (flags : ℕ) (l : Ledger) {a : Answer} → Unheard a → note (Arrive f flags) a l ≡ l
-unfolding note entered if◌then◌else◌
+unfolding note entered
 unheard_note f flags l ignored = refl
 unheard_note f flags l discarded = refl
 unheard_note f flags l filtered = refl

@@ -1,6 +1,7 @@
 -- One payload word written to a port: the buffer goes on, or is full, and then the packet goes on or is whole.
 --   payload_taken         what was written after a payload word is what the port shows after it
 -- Assumes nothing.
+use Rattle.std.specs.Prelude.{if◌then◌else◌}
 use mathlib.Core.Path.{◌≡◌, refl}
 use mathlib.Core.Bool.{Bool, true, false}
 use mathlib.Core.List.{List, [], ◌∷◌, ◌++◌, append-nil}
@@ -12,7 +13,6 @@ use lib.Seq.{take-append-le}
 use borrow.Author.Tests.{ltb-true, ltb-false, lt-ltb, le-ltb}
 use Rattle.paper.specs.declared.Packet.TheVariants.{Closed, Known}
 use Rattle.paper.specs.declared.Expect.TheVariants.{CommandA, Payload}
-use Rattle.paper.specs.Words.{if◌then◌else◌}
 use Rattle.paper.specs.Memory.{Change}
 use Rattle.paper.specs.Transmission.{buffer_size, is_last, host_words, moves}
 use Rattle.paper.specs.Transmission.{after_payload, whole_after}
@@ -75,7 +75,7 @@ module _ (free : Bool) (x : Wrote) (good : GoodWrote x) (ok : x.failed ≡ false
   -- So it is after each payload word.
   pub payload_taken : Turned free x (filled b xs a words x)
       (moves (after_payload a left (Known b (sizes_of xs + buffer_size a))) (whole_after a left (length x.packets - x.sent)) c)
-  unfolding after_payload whole_after if◌then◌else◌
+  unfolding after_payload whole_after
   payload_taken = by_cases (ltb (length words) (host_words a)) refl (is_last a) refl
     where
       by_cases : (more : Bool) → ltb (length words) (host_words a) ≡ more → (last : Bool) → is_last a ≡ last → Turned free x (filled b xs a words x)

@@ -3,6 +3,7 @@
 --   in_range_act          in range, with 4,096 words lent, a call does what is decided
 --   keeps_ranges
 -- Assumes nothing.
+use Rattle.std.specs.Prelude.{if◌then◌else◌}
 use mathlib.Core.Path.{◌≡◌, refl, ap}
 use mathlib.Core.Bool.{true, and-false}
 use mathlib.Core.List.{List, [], ◌∷◌}
@@ -12,7 +13,6 @@ use lib.ListN.{length}
 use borrow.Author.Tests.{eq-eqb}
 use Rattle.paper.specs.declared.Arrival.{Arrival}
 use Rattle.paper.specs.declared.Arrival.TheVariants.{Refused as RefusedArrival, Ignored, Discarded, Filtered, Dropped, Stored}
-use Rattle.paper.specs.Words.{if◌then◌else◌}
 use Rattle.paper.specs.Memory.{Fifo, TxData, TxStatus, RxData, RxStatus, Four, Change, keeps, size, of, ring_after}
 use Rattle.paper.specs.Registers.{with_drops}
 use Rattle.paper.specs.Status.{Look, look}
@@ -46,7 +46,7 @@ ready_sound w lent r =
 
 -- In range, with 4,096 words lent, a call does what is decided.
 pub in_range_act : (c : Call) (w : World) → Lent w.memory → in_range w.state ≡ true → act c w ≡ decide c w.state.control (waits w)
-unfolding act if◌then◌else◌
+unfolding act
 in_range_act c w lent e = rw (eq-eqb _ _ lent, e, and-false)
 
 -- the control state may differ in RX_DROP

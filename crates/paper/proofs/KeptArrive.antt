@@ -2,6 +2,7 @@
 --   all_words-append       the data words of frames, and of one more
 --   kept_arrive
 -- Assumes nothing.
+use Rattle.std.specs.Prelude.{if◌then◌else◌}
 use mathlib.Core.Path.{◌≡◌, refl, sym, ap, ◌∙◌}
 use mathlib.Core.List.{List, [], ◌∷◌, ◌++◌, append-nil, append_assoc, map-append}
 use Prim.Native.Nat.{ℕ, ◌+◌, ◌%◌, ◌^◌}
@@ -9,7 +10,6 @@ use native.Mathlib.Nat.{mod-add-mod}
 use lib.ListN.{take}
 use Rattle.paper.specs.declared.Arrival.{Arrival}
 use Rattle.paper.specs.declared.Arrival.TheVariants.{Refused as RefusedArrival, Ignored, Discarded, Filtered, Dropped, Stored}
-use Rattle.paper.specs.Words.{if◌then◌else◌}
 use Rattle.paper.specs.Registers.{with_drops}
 use Rattle.paper.specs.Status.{look}
 use Rattle.paper.specs.Arrivals.{data_words}
@@ -32,7 +32,7 @@ module _ {l : Ledger} {w : World} (h : Kept l w) (frame : List ℕ) (flags : ℕ
   -- Whichever line answers, what it says is enough.
   kept_line : (a : Arrival) → SaysAt a (control_of l) w (look frame flags)
       → KeptUnder (Arrive frame flags) l w (arrives a (control_of l) (look frame flags) (data_words frame))
-  unfolding arrives note entered put taken if◌then◌else◌
+  unfolding arrives note entered put taken
   kept_line (RefusedArrival e) says = kept_refused h (Arrive frame flags) e says
   kept_line Ignored says = kept_still h _ refl refl
   kept_line Discarded says = kept_still h _ refl refl

@@ -3,6 +3,7 @@
 --   kept_rx_data_read, kept_rx_status_pop, kept_rx_status_peek, kept_tx_status_pop, kept_tx_status_peek     the words read
 -- The restarts are in KeptRestarts, the arrival is in KeptArrive.
 -- Assumes nothing.
+use Rattle.std.specs.Prelude.{if◌then◌else◌, not}
 use mathlib.Core.Path.{◌≡◌, refl}
 use mathlib.Core.Bool.{true}
 use Prim.Native.Nat.{ℕ}
@@ -10,9 +11,8 @@ use lib.Dec.{eqb}
 use borrow.Author.Tests.{eqb-true, not-false}
 use Rattle.paper.specs.declared.Registers.{Registers}
 use Rattle.paper.specs.declared.Refusal.TheVariants.{NoRegister, BadValue}
-use Rattle.paper.specs.Words.{if◌then◌else◌}
 use Rattle.paper.specs.Memory.{TxStatus, RxData, RxStatus}
-use Rattle.paper.specs.Registers.{good_n, good_maccr, good_addrh, good_value, good_registers, write_register}
+use Rattle.paper.specs.Registers.{good_n, good_maccr, good_addrh, good_value, good_registers, write_register, is_register}
 use Rattle.paper.specs.Calls.{MacWrite, MacRead, Split, RxFifoInf, TxFifoInf, RxDrop, RxDataRead, RxStatusPop, RxStatusPeek, TxStatusPop, TxStatusPeek}
 use Rattle.paper.specs.Machine.{World, decide}
 use Rattle.paper.specs.Ledger.{Ledger, entered, note, put, taken}
@@ -23,7 +23,7 @@ use Rattle.paper.proofs.KeptMoves.{KeptBy, kept_by, kept_still, kept_unless, kep
 
 -- What may be written leaves registers that a write accepts.
 written_good : (k v : ℕ) (r : Registers) → good_value k v ≡ true → good_registers r ≡ true → good_registers (write_register k v r) ≡ true
-unfolding good_registers write_register if◌then◌else◌
+unfolding good_registers write_register
 written_good k v r good e =
     let parts = and_three (good_n r.n) (good_maccr r.maccr) (good_addrh r.addrh) e in
     and_both _ _
@@ -36,15 +36,15 @@ module _ {l : Ledger} {w : World} where
   unfolding decide note entered write_register
   kept_mac_write k v h =
       kept_by h (MacWrite k v) (
-      kept_unless h (MacWrite k v) _ NoRegister _ refl λ _.
-      kept_unless h (MacWrite k v) _ BadValue _ refl λ good.
+      kept_unless h (MacWrite k v) (not (is_register k)) NoRegister _ refl λ _.
+      kept_unless h (MacWrite k v) (not (good_value k v)) BadValue _ refl λ good.
       kept_registers h _ _ _ (written_good k v l.registers (not-false _ good) h.legal.registers) refl refl refl)
 
   -- Reading a MAC register.
   pub kept_mac_read : (register : ℕ) → Kept l w → KeptBy (MacRead register) l w
   unfolding decide note entered
   kept_mac_read k h =
-      kept_by h (MacRead k) (kept_unless h (MacRead k) _ NoRegister _ refl λ _. kept_still h _ refl refl)
+      kept_by h (MacRead k) (kept_unless h (MacRead k) (not (is_register k)) NoRegister _ refl λ _. kept_still h _ refl refl)
 
   -- Reading n.
   pub kept_split : Kept l w → KeptBy Split l w

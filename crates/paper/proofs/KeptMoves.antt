@@ -5,6 +5,7 @@
 --   kept_beside, kept_registers              an act that leaves the packets; one that changes registers alone
 --   kept_oldest           the oldest word of a FIFO is read, and perhaps taken
 -- Assumes nothing.
+use Rattle.std.specs.Prelude.{if◌then◌else◌}
 use mathlib.Core.Path.{◌≡◌, refl, sym, subst, ◌∙◌}
 use mathlib.Core.Bool.{Bool, true, false}
 use mathlib.Core.List.{List, [], ◌∷◌}
@@ -15,7 +16,6 @@ use Rattle.paper.specs.declared.Registers.{Registers}
 use Rattle.paper.specs.declared.Refusal.{Refusal}
 use Rattle.paper.specs.declared.Refusal.TheVariants.{NothingThere}
 use Rattle.paper.specs.declared.Answer.TheVariants.{Value}
-use Rattle.paper.specs.Words.{if◌then◌else◌}
 use Rattle.paper.specs.Memory.{Fifo, Four, size, of, Change}
 use Rattle.paper.specs.Registers.{good_registers}
 use Rattle.paper.specs.Calls.{Call}
@@ -57,7 +57,7 @@ module _ {l : Ledger} {w : World} (h : Kept l w) where
 
   -- So does a refusal other than 7, 8 and 9.
   pub kept_refused : (c : Call) (r : Refusal) → sets_error r ≡ false → KeptUnder c l w (refuses r (control_of l))
-  unfolding note if◌then◌else◌
+  unfolding note
   kept_refused c r e = rw e (kept_still _ refl refl)
 
   -- A call that is refused where a test holds, and else does the act a.

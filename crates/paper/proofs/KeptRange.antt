@@ -5,6 +5,7 @@
 --   laid_all-append, good_drop, laid_all_three, whole_held    the whole packets hold at least three words each
 --   kept_in_range, kept_act     the world is in range; each call does what is decided by what the ledger implies
 -- Assumes nothing.
+use Rattle.std.specs.Prelude.{if◌then◌else◌}
 use mathlib.Core.Path.{◌≡◌, refl, sym, ap, ◌∙◌}
 use mathlib.Core.Bool.{Bool, true, false, not, and-false}
 use mathlib.Core.List.{List, [], ◌∷◌, ◌++◌, append_assoc}
@@ -13,7 +14,6 @@ use native.Mathlib.Omega.{arith}
 use lib.Dec.{leb, eqb}
 use lib.ListN.{length, take, drop, length-append, length-drop, take-append-drop}
 use borrow.Author.Tests.{leb-true, eqb-true, le-leb, eq-eqb}
-use Rattle.paper.specs.Words.{if◌then◌else◌}
 use Rattle.paper.specs.Memory.{TxData, TxStatus, RxData, RxStatus}
 use Rattle.paper.specs.Registers.{good_n, good_maccr, good_addrh, good_registers}
 use Rattle.paper.specs.Transmission.{alignment_field, buffer_size, is_first, is_last, packet_length, host_words, good_a, sizes_agree}
@@ -31,7 +31,7 @@ use Rattle.paper.proofs.Packets.{laid_three}
 
 -- Sizes that agree with p, at Last or before it, are at most p.
 pub agree_within : (a b sizes : ℕ) → sizes_agree a b sizes ≡ true → sizes + buffer_size a ≤ packet_length b
-unfolding sizes_agree if◌then◌else◌
+unfolding sizes_agree
 agree_within a b sizes = by_cases (is_last a)
   where
     by_cases : (last : Bool) → (if last then eqb (sizes + buffer_size a) (packet_length b) else leb (sizes + buffer_size a) (packet_length b)) ≡ true
@@ -52,7 +52,7 @@ open_within {b} {xs} o = le-leb (sizes_of xs) (packet_length b) (omega (arith, r
 
 -- An A that is good with a packet open, or with none, is good by its own First bit.
 pub good_either : (is_open : Bool) (a : ℕ) → good_a is_open a ≡ true → good_a (not (is_first a)) a ≡ true
-unfolding good_a if◌then◌else◌
+unfolding good_a
 good_either is_open a good =
     let parts = and_three (not (eqb (alignment_field a) 3)) (not (eqb (buffer_size a) 0)) _ good in
     rw (parts.0, parts.1) (by_itself (is_first a))
@@ -144,7 +144,7 @@ kept_in_range {l} {w} h =
 
 -- So no call gets 14 or 15 at entry, and each does what is decided by what the ledger implies.
 pub kept_act : {l : Ledger} {w : World} (c : Call) → Kept l w → act c w ≡ decide c (control_of l) (waits w)
-unfolding act if◌then◌else◌
+unfolding act
 kept_act {l} {w} c h = rw (eq-eqb _ _ h.sound.lent, kept_in_range h, and-false (not (is_reset c)), h.control)
 
 -- Each call is answered so.

@@ -15,7 +15,7 @@ use Rattle.paper.specs.declared.Expect.TheVariants.{CommandA}
 use Rattle.paper.specs.declared.Packet.TheVariants.{Closed}
 use Rattle.paper.specs.Words.{bit}
 use Rattle.paper.specs.Memory.{TxData}
-use Rattle.paper.specs.Registers.{TXEN, RXEN, good_n, good_maccr, good_addrh, good_registers, with_n, is_idle, expects_first, may_resize}
+use Rattle.paper.specs.Registers.{TXEN, RXEN, good_n, good_maccr, good_addrh, good_registers, with_n, is_idle, expects_first, may_resize, may_dump_rx, may_dump_tx_data}
 use Rattle.paper.specs.Fresh.{fresh_registers, fresh_port}
 use Rattle.paper.specs.Calls.{Reset, SetSplit, DumpTxData, DumpTxStatus, DumpRx}
 use Rattle.paper.specs.Acts.{with_registers, with_port}
@@ -101,7 +101,7 @@ module _ {l : Ledger} {w : World} where
   unfolding decide note entered put taken all_words
   kept_dump_rx h =
       kept_by h DumpRx (
-      kept_unless h DumpRx _ NotNow _ refl λ _.
+      kept_unless h DumpRx (not (may_dump_rx l.registers)) NotNow _ refl λ _.
       kept_beside h _ _ _ _ _ h.legal.registers refl refl (each _ tt tt tt tt) (each _ (refl, refl) (refl, refl) (refl, refl) (refl, refl)))
 
   -- Dumping TX data.
@@ -109,7 +109,7 @@ module _ {l : Ledger} {w : World} where
   unfolding decide note entered put taken laid_all laid_so_far expect_of
   kept_dump_tx_data h =
       kept_by h DumpTxData (
-      kept_unless h DumpTxData _ NotNow _ refl λ _.
+      kept_unless h DumpTxData (not (may_dump_tx_data l.registers)) NotNow _ refl λ _.
       kept_apply h (record {
         legal = none_legal _ _ _ _ h.legal.registers;
         control = refl;

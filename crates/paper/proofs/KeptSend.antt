@@ -3,6 +3,7 @@
 --   kept_send             a sending keeps the invariant
 --   sends_of              its answer and the frame sent
 -- Assumes nothing.
+use Rattle.std.specs.Prelude.{if◌then◌else◌}
 use mathlib.Core.Path.{◌≡◌, refl, sym, ap, subst, ◌∙◌}
 use mathlib.Core.Bool.{Bool, true, false, not}
 use mathlib.Core.List.{List, [], ◌∷◌}
@@ -15,7 +16,7 @@ use Rattle.paper.specs.declared.Control.{Control}
 use Rattle.paper.specs.declared.Refusal.{Refusal}
 use Rattle.paper.specs.declared.Refusal.TheVariants.{SendingOff, OtherBits, NothingThere, StatusFull, OutShort}
 use Rattle.paper.specs.declared.Answer.TheVariants.{Value, Refused}
-use Rattle.paper.specs.Words.{if◌then◌else◌, bit}
+use Rattle.paper.specs.Words.{bit}
 use Rattle.paper.specs.Memory.{Fifo, TxData, TxStatus, RxData, RxStatus, size, keeps, puts, takes, of}
 use Rattle.paper.specs.Registers.{TXEN}
 use Rattle.paper.specs.Sending.{head_of, frame_of, out_after, good_outcome, tx_status, shortest_out}
@@ -65,13 +66,14 @@ send_cases : (P : Act → Type 0) (l : Ledger) (outcome out_length : ℕ) → ((
     → ((p : Whole) (ps : List Whole) → unsent l ≡ p ∷ ps → held TxStatus l < size TxStatus l.registers.n → P (accepts p outcome (control_of l)))
     → P (send_of outcome out_length l)
 send_cases P l outcome out_length refused accepted =
-    if_cases P _ (λ _. refused SendingOff refl) (λ _. if_cases P _ (λ _. refused OtherBits refl) (λ _. by_unsent (unsent l) refl))
+    if_cases P (not (bit TXEN l.registers.maccr)) (λ _. refused SendingOff refl)
+    (λ _. if_cases P (not (good_outcome outcome)) (λ _. refused OtherBits refl) (λ _. by_unsent (unsent l) refl))
   where
     by_unsent : (qs : List Whole) → unsent l ≡ qs → P (sends_to outcome out_length (held TxStatus l) (control_of l) qs)
     by_unsent [] e = refused NothingThere refl
     by_unsent (p ∷ ps) e =
-        if_cases P _ (λ _. refused StatusFull refl)
-        (λ room. if_cases P _ (λ _. refused OutShort refl) (λ _. accepted p ps e (leb-false _ _ room)))
+        if_cases P (leb (size TxStatus l.registers.n) (held TxStatus l)) (λ _. refused StatusFull refl)
+        (λ room. if_cases P (ltb out_length shortest_out) (λ _. refused OutShort refl) (λ _. accepted p ps e (leb-false _ _ room)))
 
 module _ {l : Ledger} {w : World} (h : Kept l w) (outcome : ℕ) (out : List ℕ) where
   -- The words waiting in TX status are as many as the ledger says.
@@ -83,7 +85,7 @@ module _ {l : Ledger} {w : World} (h : Kept l w) (outcome : ℕ) (out : List ℕ
       → (if eqb (control_of l).port.whole 0 then refuses NothingThere (control_of l) else
       sends (head_of (waits w).txdata) outcome (length out) (length (waits w).txstatus) ((control_of l).port.whole - 1) (control_of l))
       ≡ sends_to outcome (length out) (held TxStatus l) (control_of l) qs
-  unfolding sends if◌then◌else◌
+  unfolding sends
   sends_unsent [] e =
       let none : (control_of l).port.whole ≡ 0 = sym (length-drop l.wrote.sent l.wrote.packets) ∙ ap length e in
       rw (eq-eqb _ _ none)
@@ -148,7 +150,6 @@ kept_send {l} {w} outcome out h =
 
 -- The answer of a choice between acts is the choice between their answers.
 answer_choice : (t : Bool) (a a' : Act) → (if t then a else a').answer ≡ (if t then a.answer else a'.answer)
-unfolding if◌then◌else◌
 answer_choice true a a' = refl
 answer_choice false a a' = refl
 

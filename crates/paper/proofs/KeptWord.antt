@@ -3,6 +3,7 @@
 --   note_word             what the ledger notes of a word written
 --   kept_tx_word          after a word written to the port the world is as the ledger says
 -- Assumes nothing.
+use Rattle.std.specs.Prelude.{if◌then◌else◌}
 use mathlib.Core.Path.{◌≡◌, refl, sym, ap, subst, ◌∙◌}
 use mathlib.Core.Bool.{Bool, true, false, not, ◌&&◌}
 use mathlib.Core.List.{List, [], ◌∷◌, ◌++◌, append-nil}
@@ -16,7 +17,6 @@ use Rattle.paper.specs.declared.Ring.{Ring}
 use Rattle.paper.specs.declared.Refusal.TheVariants.{BadCommand, Disagrees}
 use Rattle.paper.specs.declared.Answer.{Answer}
 use Rattle.paper.specs.declared.Answer.TheVariants.{Value, Refused}
-use Rattle.paper.specs.Words.{if◌then◌else◌}
 use Rattle.paper.specs.Memory.{TxData, TxStatus, RxData, RxStatus, size, Change, keeps, puts}
 use Rattle.paper.specs.Transmission.{host_words, good_a, good_length, repeats, sizes_agree, is_stored, Turn}
 use Rattle.paper.specs.Transmission.{takes_a, takes_b, takes_payload, takes_expected, port_takes}
@@ -101,7 +101,7 @@ module _ (free : Bool) (w : ℕ) (packets : List Whole) (sent : ℕ) where
 
 -- Every turn of a port that is as what was written implies takes it to what its answer says.
 pub turned : (free : Bool) (w : ℕ) (x : Wrote) → GoodWrote x → TurnsTo free w x (port_takes free (port_of x) w)
-unfolding port_takes if◌then◌else◌
+unfolding port_takes
 turned free w x good = by_error x.failed good
   where
     with_error : Bool → Wrote
@@ -115,7 +115,7 @@ turned free w x good = by_error x.failed good
 
 -- What the ledger notes of a word written is what was written after it.
 pub note_word : (w : ℕ) (a : Answer) (l : Ledger) → note (TxWord w) a l ≡ with_wrote (wrote_after w a l.wrote) l
-unfolding note entered if◌then◌else◌
+unfolding note entered
 note_word w (Value v) l = refl
 note_word w (Refused r) l = either (sets_error r)
   where

@@ -2,6 +2,8 @@
 --   is_entry a             the answer is refusal 14 or 15
 --   never_entry           in a world as a ledger says no call has such an answer
 -- Assumes nothing.
+use native.Mathlib.Omega.{arith}
+use Rattle.std.specs.Prelude.{if◌then◌else◌, ◌&&◌, not, ltb}
 use mathlib.Core.Path.{◌≡◌, refl, ap, ◌∙◌}
 use mathlib.Core.Bool.{Bool, false}
 use mathlib.Core.List.{List, [], ◌∷◌}
@@ -16,16 +18,19 @@ use Rattle.paper.specs.declared.Answer.TheVariants.{Value, Refused}
 use Rattle.paper.specs.declared.Arrival.{Arrival}
 use Rattle.paper.specs.declared.Room.{Room}
 use Rattle.paper.specs.declared.Room.TheVariants.{Fits, Short}
-use Rattle.paper.specs.Words.{if◌then◌else◌}
-use Rattle.paper.specs.Memory.{Four, Change, TxStatus}
+use Rattle.paper.specs.Memory.{Four, Change, TxStatus, size}
 use Rattle.paper.specs.Status.{Look, look, kept}
-use Rattle.paper.specs.Arrivals.{arrival, room, by_room, arrival_answer, data_words}
+use Rattle.paper.specs.Arrivals.{refuses_length, good_flags, discards, arrival, room, by_room, arrival_answer, data_words}
 use Rattle.paper.specs.Transmission.{Turn, takes_a, takes_b, takes_payload, takes_expected, port_takes}
 use Rattle.paper.specs.Refusals.{number}
 use Rattle.paper.specs.Calls.{Call, Reset, MacWrite, MacRead, SetSplit, Split, RxFifoInf, TxFifoInf, RxDrop, DumpTxData, DumpTxStatus, DumpRx, Arrive, RxDataRead, RxStatusPop, RxStatusPeek, TxWord, Send, TxStatusPop, TxStatusPeek}
 use Rattle.paper.specs.Acts.{Act, oldest}
 use Rattle.paper.specs.Machine.{World, waits, step, answer, decide}
 use Rattle.paper.specs.Ledger.{Taking, Nothing, FirstA, Between, LaterA, Filling, Ledger, Whole}
+use Rattle.paper.specs.Words.{bit}
+use Rattle.paper.specs.Registers.{TXEN, RXEN, RXALL}
+use Rattle.paper.specs.Filter.{passes}
+use Rattle.paper.specs.Sending.{shortest_out, good_outcome}
 use Rattle.paper.specs.Runs.{sending, sending_to}
 use Rattle.paper.specs.Promises.{held}
 use Rattle.paper.proofs.Choice.{if_cases}
@@ -41,10 +46,7 @@ is_entry (Refused r) = leb 14 (number r)
 abbrev Plain : Answer → Type 0
 Plain a = is_entry a ≡ false
 
--- A choice between acts none of which is so answered.
-either : (b : Bool) (x y : Act) → Plain x.answer → Plain y.answer → Plain (if b then x else y).answer
-either b x y p q = if_cases (λ (a : Act). Plain a.answer) b (λ _. p) (λ _. q)
-
+-- A choice between turns none of which is so answered.
 turns : (b : Bool) (x y : Turn) → Plain x.answer → Plain y.answer → Plain (if b then x else y).answer
 turns b x y p q = if_cases (λ (t : Turn). Plain t.answer) b (λ _. p) (λ _. q)
 
@@ -53,7 +55,12 @@ turns b x y p q = if_cases (λ (t : Turn). Plain t.answer) b (λ _. p) (λ _. q)
 -- The answers that the seven lines give.
 arrival_plain : (r : Registers) (words statuses : ℕ) (l : Look) → Plain (arrival_answer (arrival r words statuses l))
 unfolding arrival
-arrival_plain r words statuses l = choose _ _ _ refl (choose _ _ _ refl (choose _ _ _ refl (choose _ _ _ refl (choose _ _ _ refl (by_room_lem (room (kept l) words statuses))))))
+arrival_plain r words statuses l =
+    choose (refuses_length l.len) _ _ refl
+    (choose (not (good_flags l.flags)) _ _ refl
+    (choose (not (bit RXEN r.maccr)) _ _ refl
+    (choose (discards r l) _ _ refl
+    (choose (not (passes r l.head) && not (bit RXALL r.maccr)) _ _ refl (by_room_lem (room (kept l) words statuses))))))
   where
     P : Arrival → Type 0
     P a = Plain (arrival_answer a)
@@ -76,11 +83,11 @@ oldest_plain k c (w ∷ q) = refl
 -- A port that has come so far by accepted words expects no B without a packet.
 expected_plain : (free : Bool) (p : Port) (t : Taking) (w : ℕ) → Plain (takes_expected free p (expect_of t) w).answer
 unfolding takes_expected expect_of takes_a takes_b takes_payload
-expected_plain free p Nothing w = turns _ _ _ (turns free _ _ refl refl) refl
-expected_plain free p (FirstA a) w = turns _ _ _ refl (turns _ _ _ refl (turns free _ _ refl refl))
-expected_plain free p (Between b xs) w = turns _ _ _ (turns free _ _ refl refl) refl
-expected_plain free p (LaterA b xs a) w = turns _ _ _ refl refl
-expected_plain free p (Filling b xs a words) w = turns _ _ _ (turns free _ _ refl refl) refl
+expected_plain free p Nothing w = grind arith
+expected_plain free p (FirstA a) w = grind arith
+expected_plain free p (Between b xs) w = grind arith
+expected_plain free p (LaterA b xs a) w = grind arith
+expected_plain free p (Filling b xs a words) w = grind arith
 
 word_plain : (free failed : Bool) (whole : ℕ) (t : Taking) (w : ℕ) → Plain (port_takes free (record { expect = expect_of t; failed = failed; whole = whole }) w).answer
 unfolding port_takes
@@ -90,14 +97,14 @@ word_plain free failed whole t w = turns failed _ _ refl (expected_plain free _ 
 
 -- The answers to sending in a run.
 sending_plain : (r : Registers) (outcome out statuses : ℕ) (ps : List Whole) → Plain (sending r outcome out statuses ps)
-sending_plain r outcome out statuses ps = choose _ _ _ refl (choose _ _ _ refl (to ps))
+sending_plain r outcome out statuses ps = choose (not (bit TXEN r.maccr)) _ _ refl (choose (not (good_outcome outcome)) _ _ refl (to ps))
   where
     choose : (b : Bool) (x y : Answer) → Plain x → Plain y → Plain (if b then x else y)
     choose b x y p q = if_cases Plain b (λ _. p) (λ _. q)
 
     to : (ps : List Whole) → Plain (sending_to r.n out statuses ps)
     to [] = refl
-    to (p ∷ ps) = choose _ _ _ refl (choose _ _ _ refl refl)
+    to (p ∷ ps) = choose (leb (size TxStatus r.n) statuses) _ _ refl (choose (ltb out shortest_out) _ _ refl refl)
 
 -- ---- Every call
 
@@ -110,16 +117,16 @@ decided c h e = ap (λ (a : Act). is_entry a.answer) (kept_act c h) ∙ e
 pub never_entry : {l : Ledger} {w : World} (c : Call) → Kept l w → is_entry (answer c w) ≡ false
 unfolding decide
 never_entry Reset h = decided Reset h refl
-never_entry (MacWrite k v) h = decided (MacWrite k v) h (either _ _ _ refl (either _ _ _ refl refl))
-never_entry (MacRead k) h = decided (MacRead k) h (either _ _ _ refl refl)
-never_entry (SetSplit n) h = decided (SetSplit n) h (either _ _ _ refl (either _ _ _ refl refl))
+never_entry (MacWrite k v) h = decided (MacWrite k v) h (grind arith)
+never_entry (MacRead k) h = decided (MacRead k) h (grind arith)
+never_entry (SetSplit n) h = decided (SetSplit n) h (grind arith)
 never_entry Split h = decided Split h refl
 never_entry RxFifoInf h = decided RxFifoInf h refl
 never_entry TxFifoInf h = decided TxFifoInf h refl
 never_entry RxDrop h = decided RxDrop h refl
-never_entry DumpTxData h = decided DumpTxData h (either _ _ _ refl refl)
+never_entry DumpTxData h = decided DumpTxData h (grind arith)
 never_entry DumpTxStatus h = decided DumpTxStatus h refl
-never_entry DumpRx h = decided DumpRx h (either _ _ _ refl refl)
+never_entry DumpRx h = decided DumpRx h (grind arith)
 never_entry {l} {w} (Arrive frame flags) h =
     decided (Arrive frame flags) h (ap is_entry (arrives_answer _ (control_of l) (look frame flags) (data_words frame)) ∙ arrival_plain _ _ _ (look frame flags))
 never_entry {l} {w} RxDataRead h = decided RxDataRead h (oldest_plain _ _ (waits w).rxdata)

@@ -3,6 +3,7 @@
 --   packet_writes         the words of a good packet are accepted one after the other
 --   packet_fed            what feeding them to a port gives
 -- Assumes nothing.
+use Rattle.std.specs.Prelude.{if◌then◌else◌}
 use mathlib.Core.Path.{◌≡◌, ap, ◌∙◌}
 use mathlib.Core.Bool.{Bool, true, false, not, ◌&&◌}
 use mathlib.Core.List.{List, [], ◌∷◌, ◌++◌, append-nil}
@@ -18,7 +19,6 @@ use Rattle.paper.specs.declared.Expect.TheVariants.{CommandA, Payload}
 use Rattle.paper.specs.declared.Port.{Port}
 use Rattle.paper.specs.declared.Answer.{Answer}
 use Rattle.paper.specs.declared.Answer.TheVariants.{Value}
-use Rattle.paper.specs.Words.{if◌then◌else◌}
 use Rattle.paper.specs.Memory.{Change, keeps, puts, takes, restarts}
 use Rattle.paper.specs.Transmission.{alignment_field, buffer_size, is_first, is_last, packet_length, host_words, good_a, good_length}
 use Rattle.paper.specs.Transmission.{is_open, port_takes}
@@ -58,7 +58,7 @@ feed room p (w ∷ ws) =
 
 -- A good A is First exactly where no packet is open.
 good_first : (is_open : Bool) (a : ℕ) → good_a is_open a ≡ true → not (is_first a) ≡ is_open
-unfolding good_a if◌then◌else◌
+unfolding good_a
 good_first true a e = and_right (not (eqb (alignment_field a) 3) && not (eqb (buffer_size a) 0)) _ e
 good_first false a e = rw (and_right (not (eqb (alignment_field a) 3) && not (eqb (buffer_size a) 0)) _ e)
 

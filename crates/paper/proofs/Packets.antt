@@ -5,6 +5,7 @@
 --   head_of_laid          reading back finds the packet, whatever lies behind it
 --   sent_of_laid, freed_of_laid, bytes_of_whole, laid_three    its bytes, its words, its length
 -- Assumes nothing.
+use Rattle.std.specs.Prelude.{if◌then◌else◌}
 use mathlib.Core.Path.{◌≡◌, refl, sym, ap, ◌∙◌}
 use mathlib.Core.Bool.{Bool, true, false}
 use mathlib.Core.List.{List, [], ◌∷◌, ◌++◌, map, append_assoc}
@@ -15,7 +16,7 @@ use lib.Dec.{ltb}
 use lib.ListN.{length, take, drop, length-append, length-drop}
 use lib.Seq.{length-take-le, take_at, drop_at, take-take, take-nil, drop-nil, drop-drop}
 use borrow.Author.Tests.{le-ltb, eqb-true}
-use Rattle.paper.specs.Words.{if◌then◌else◌, bytes_of}
+use Rattle.paper.specs.Words.{bytes_of}
 use Rattle.paper.specs.Transmission.{offset, buffer_size, host_words, front_words, stored_words, is_last, sizes_agree, packet_length, good_length}
 use Rattle.paper.specs.Sending.{Buffer, Found, behind, from_a, buffers_from, head_of, buffer_bytes, sent_bytes, freed}
 use Rattle.paper.specs.Ledger.{Written, Whole, kept_of, laid_later, laid_first, laid, written_bytes, buffers_bytes, packet_bytes}
@@ -94,7 +95,7 @@ buffers_words (x ∷ xs) = rw (length-append (kept_of x.a x.words) (laid_later x
 
 -- Buffers that end a packet bring its bytes to its length.
 ended_bytes : {is_open : Bool} {b sizes : ℕ} {xs : List Written} → Ended is_open b sizes xs → sizes + length (buffers_bytes xs) ≡ packet_length b
-unfolding buffers_bytes sizes_agree if◌then◌else◌
+unfolding buffers_bytes sizes_agree
 ended_bytes {b = b} {sizes = sizes} (last {x = x} fine ends) =
     let whole : sizes + buffer_size x.a ≡ packet_length b = eqb-true _ _ (rw ends at fine.begun.agree) in
     rw (length-append (written_bytes x) [], written_length x fine.full) (omega arith)
@@ -105,7 +106,7 @@ ended_bytes (more {x = x} {xs = xs} fine goes others) =
 buffer_read : (most b sizes : ℕ) (x : Written) (q : List ℕ) → sizes_agree x.a b sizes ≡ true → length x.words ≡ host_words x.a
     → buffers_from (suc most) b sizes x.a (kept_of x.a x.words ++ q)
     ≡ behind (buffer_of x) (if is_last x.a then Found b [] else from_a true (λ later rest. buffers_from most b (sizes + buffer_size x.a) later rest) q)
-unfolding buffers_from if◌then◌else◌
+unfolding buffers_from
 buffer_read most b sizes x q agree full =
     let stored = stored_words x.a in
     let kept = kept_of x.a x.words in
@@ -116,7 +117,7 @@ buffer_read most b sizes x q agree full =
 -- Buffers that end a packet are read back, whatever lies behind them.
 buffers_read : {is_open : Bool} {b sizes : ℕ} {xs : List Written} (most : ℕ) → Ended is_open b sizes xs → length xs ≤ most → (rest : List ℕ)
     → from_a is_open (λ later q. buffers_from most b sizes later q) (laid_later xs ++ rest) ≡ Found b (map buffer_of xs)
-unfolding laid_later if◌then◌else◌
+unfolding laid_later
 buffers_read zero (last fine ends) enough rest = absurd (not-suc-le-zero enough)
 buffers_read zero (more fine goes others) enough rest = absurd (not-suc-le-zero enough)
 buffers_read {b = b} {sizes = sizes} (suc most) (last {x = x} fine ends) enough rest =
@@ -149,7 +150,7 @@ module _ (b : ℕ) (x : Written) (xs : List Written) (fine : Fine false b 0 x) w
 
   -- Reading back finds them.
   first_read : (rest : List ℕ) → good_length b ≡ true → Ended false b 0 (x ∷ xs) → head_of (laid_first b (x ∷ xs) ++ rest) ≡ Found b (map buffer_of (x ∷ xs))
-  unfolding head_of laid_first laid_later if◌then◌else◌
+  unfolding head_of laid_first laid_later
   first_read rest long ended =
       let kept = kept_of x.a x.words in
       let words : length kept ≡ stored_words x.a = kept_length x.a x.words fine.full in

@@ -3,6 +3,7 @@
 --   twelve_rows           the two columns are equal
 -- Rows 7 to 11 go by the rule for arrivals: the answer's number, then the status put, if one is.
 -- Assumes nothing.
+use Rattle.std.specs.Prelude.{if◌then◌else◌}
 use mathlib.Core.Path.{◌≡◌, refl}
 use mathlib.Core.Bool.{Bool, true, false, ◌&&◌, ◌||◌}
 use mathlib.Core.List.{List, [], ◌∷◌, ◌++◌, map}
@@ -12,7 +13,7 @@ use lib.ListN.{length, replicate}
 use Rattle.paper.specs.declared.Rule.TheVariants.{Equal, NotEqual, Hash, Pass}
 use Rattle.paper.specs.declared.Setting.{Setting}
 use Rattle.paper.specs.declared.Setting.TheVariants.{Undefined, Defined}
-use Rattle.paper.specs.Words.{if◌then◌else◌, series}
+use Rattle.paper.specs.Words.{series}
 use Rattle.paper.specs.Memory.{size, TxData, TxStatus, RxData, RxStatus}
 use Rattle.paper.specs.Registers.{RXALL, PASSBAD, settings, is_defined}
 use Rattle.paper.specs.Filter.{ours}

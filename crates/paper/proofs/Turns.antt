@@ -5,6 +5,7 @@
 --   Lays, Turned          what a change puts behind the words laid; what a turn keeps to
 --   turned                every turn keeps to it
 -- Assumes nothing.
+use Rattle.std.specs.Prelude.{if◌then◌else◌}
 use mathlib.Core.Path.{◌≡◌, refl, sym, ap, ◌∙◌}
 use mathlib.Core.Bool.{Bool, true, false}
 use mathlib.Core.List.{List, [], ◌∷◌, ◌++◌, append_assoc}
@@ -15,7 +16,6 @@ use Rattle.paper.specs.declared.Refusal.{Refusal}
 use Rattle.paper.specs.declared.Refusal.TheVariants.{ErrorStands, DataFull}
 use Rattle.paper.specs.declared.Answer.{Answer}
 use Rattle.paper.specs.declared.Answer.TheVariants.{Value, Refused}
-use Rattle.paper.specs.Words.{if◌then◌else◌}
 use Rattle.paper.specs.Memory.{Change, keeps, puts}
 use Rattle.paper.specs.Transmission.{Turn, fails, moves, stores}
 use Rattle.paper.specs.Ledger.{Taking, Wrote, laid_all, laid_so_far}
@@ -62,12 +62,10 @@ lays_behind ws (lays_one {before = before} w f e) = lays_one w f (ap (λ s. ws +
 module _ (free : Bool) (w : ℕ) (x : Wrote) (good : GoodWrote x) where
   -- While an error stands, nothing is done.
   pub stands : TurnsTo free w x (record { port = port_of x; change = keeps; answer = Refused ErrorStands })
-  unfolding if◌then◌else◌
   stands = record { port = refl; lays = lays_none refl; good = good; taken = refl }
 
   -- A refusal that sets the error sets it in what was written.
   pub failed : (r : Refusal) → sets_error r ≡ true → TurnsTo free w x (fails r (port_of x))
-  unfolding if◌then◌else◌
   failed r e =
       rw e (record {
         port = refl;

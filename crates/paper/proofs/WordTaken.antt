@@ -3,6 +3,7 @@
 --   Able w e whole        the world w is in range, and its port expects e, with no error
 --   word_answer, word_control, word_waits, word_able    the answer, the control state and the words waiting after it; the world after it is in range
 -- Assumes nothing.
+use Rattle.std.specs.Prelude.{if◌then◌else◌}
 use mathlib.Core.Path.{◌≡◌, refl, sym, ap, ◌∙◌}
 use mathlib.Core.Bool.{true}
 use mathlib.Core.List.{List, [], ◌∷◌, ◌++◌, append-nil}
@@ -16,7 +17,6 @@ use Rattle.paper.specs.declared.Ring.{Ring}
 use Rattle.paper.specs.declared.Port.{Port}
 use Rattle.paper.specs.declared.Control.{Control}
 use Rattle.paper.specs.declared.Answer.TheVariants.{Value}
-use Rattle.paper.specs.Words.{if◌then◌else◌}
 use Rattle.paper.specs.Memory.{Fifo, TxData, TxStatus, RxData, RxStatus, Four, size, of, words_lent, Change, keeps, puts, ring_after, waiting_after}
 use Rattle.paper.specs.Transmission.{moves, port_takes}
 use Rattle.paper.specs.Refusals.{expect_in_range}
@@ -110,7 +110,7 @@ module _ {w : World} {e e' : Expect} {whole whole' word : ℕ} {new : List ℕ} 
 
   -- Its act.
   word_act : act (TxWord word) w ≡ accepting w.state.control e' whole' new
-  unfolding act decide if◌then◌else◌
+  unfolding act decide
   word_act = rw (eq-eqb _ _ h.lent, in_range_lem w.state h.fit, word_turn)
 
   -- the act of the word

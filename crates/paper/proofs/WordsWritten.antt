@@ -5,6 +5,7 @@
 --   word_a .. word_last   A, B and payload words
 --   payload_writes        the payload words of a buffer
 -- Assumes nothing.
+use Rattle.std.specs.Prelude.{if◌then◌else◌}
 use mathlib.Core.Path.{◌≡◌, refl, sym, ap, subst₂, ◌∙◌}
 use mathlib.Core.Bool.{Bool, true, false}
 use mathlib.Core.List.{List, [], ◌∷◌, ◌++◌, append_assoc, append-nil}
@@ -17,7 +18,6 @@ use Rattle.paper.specs.declared.Packet.TheVariants.{Closed, Opened, Known}
 use Rattle.paper.specs.declared.Expect.{Expect}
 use Rattle.paper.specs.declared.Expect.TheVariants.{CommandA, CommandB, Payload}
 use Rattle.paper.specs.declared.Port.{Port}
-use Rattle.paper.specs.Words.{if◌then◌else◌}
 use Rattle.paper.specs.Memory.{keeps, puts}
 use Rattle.paper.specs.Transmission.{buffer_size, is_last, packet_length, tag, host_words, good_a, good_length, repeats, sizes_agree, is_stored}
 use Rattle.paper.specs.Transmission.{is_open, opened, moves, takes_a, takes_b, takes_payload, takes_expected, port_takes, after_payload, whole_after}
@@ -76,38 +76,38 @@ pub data Writes (whole : ℕ) : Expect → (ws stored : List ℕ) → Type 0 whe
 
 -- With two payload words left, one is left behind the next.
 more_left : (a left : ℕ) (packet : Packet) → after_payload a (suc (suc left)) packet ≡ Payload a (suc left) packet
-unfolding after_payload if◌then◌else◌
+unfolding after_payload
 more_left a left packet =
     let less : suc (suc left) - 1 ≡ suc left = omega arith in
     rw (lt-ltb 1 (suc (suc left)) (omega arith), less)
 
 -- With two payload words left, the next makes no packet whole.
 more_whole : (a left whole : ℕ) → whole_after a (suc (suc left)) whole ≡ whole
-unfolding whole_after if◌then◌else◌
+unfolding whole_after
 more_whole a left whole = rw (lt-ltb 1 (suc (suc left)) (omega arith))
 
 module _ (whole : ℕ) where
   -- A good A is accepted and laid.
   pub word_a : (packet : Packet) (a : ℕ) → good_a (is_open packet) a ≡ true → Word whole (CommandA packet) a (CommandB a (opened packet)) whole (a ∷ [])
-  unfolding port_takes takes_expected takes_a if◌then◌else◌
+  unfolding port_takes takes_expected takes_a
   word_a packet a good = lays (rw good)
 
   -- A good first B is accepted and laid.
   pub word_first_b : (a b : ℕ) → good_length b ≡ true → sizes_agree a b 0 ≡ true
       → Word whole (CommandB a Opened) b (Payload a (host_words a) (Known b (buffer_size a))) whole (b ∷ [])
-  unfolding port_takes takes_expected takes_b if◌then◌else◌
+  unfolding port_takes takes_expected takes_b
   word_first_b a b long agree = lays (rw (long, agree))
 
   -- A later B that repeats the first is accepted and thrown away.
   pub word_later_b : (a b sizes : ℕ) → sizes_agree a b sizes ≡ true
       → Word whole (CommandB a (Known b sizes)) b (Payload a (host_words a) (Known b (sizes + buffer_size a))) whole []
-  unfolding port_takes takes_expected takes_b repeats if◌then◌else◌
+  unfolding port_takes takes_expected takes_b repeats
   word_later_b a b sizes agree = thrown (λ free. rw (eq-eqb (tag b) (tag b) refl, eq-eqb (packet_length b) (packet_length b) refl, agree))
 
   -- Payload word i is accepted, and laid where it is to be stored.
   word_payload : (a left i : ℕ) (packet : Packet) (w : ℕ) → host_words a - left ≡ i
       → Word whole (Payload a left packet) w (after_payload a left packet) (whole_after a left whole) (stored_word a i w)
-  unfolding port_takes takes_expected takes_payload if◌then◌else◌
+  unfolding port_takes takes_expected takes_payload
   word_payload a left i packet w e =
       if_cases (Word whole (Payload a left packet) w (after_payload a left packet) (whole_after a left whole)) (is_stored a i)
       (λ s. lays (rw (e, s))) (λ s. thrown (λ free. rw (e, s)))
@@ -122,13 +122,13 @@ module _ (whole : ℕ) where
   -- The last of a buffer that is not Last: the packet goes on.
   pub word_full : (a i : ℕ) (packet : Packet) (w : ℕ) → host_words a - 1 ≡ i → is_last a ≡ false
       → Word whole (Payload a 1 packet) w (CommandA packet) whole (stored_word a i w)
-  unfolding after_payload whole_after if◌then◌else◌
+  unfolding after_payload whole_after
   word_full a i packet w e l = rw l at (word_payload a 1 i packet w e)
 
   -- The last of the Last buffer: the packet is whole.
   pub word_last : (a i : ℕ) (packet : Packet) (w : ℕ) → host_words a - 1 ≡ i → is_last a ≡ true
       → Word whole (Payload a 1 packet) w (CommandA Closed) (whole + 1) (stored_word a i w)
-  unfolding after_payload whole_after if◌then◌else◌
+  unfolding after_payload whole_after
   word_last a i packet w e l = rw l at (word_payload a 1 i packet w e)
 
   -- The payload words of a buffer from word i on, where the last of them leads to what is written behind it.

@@ -4,7 +4,7 @@
 --   does, refuses         an act that sends nothing and answers a value; one that refuses and changes nothing
 --   mac_write .. send      the act of each call that has more than one case; levels are the words waiting in each FIFO
 -- Assumes nothing.
-use Rattle.std.specs.Prelude.{not, List, [], ◌∷◌, ℕ, ◌-◌, ltb, leb, eqb, length}
+use Rattle.std.specs.Prelude.{if◌then◌else◌, not, List, [], ◌∷◌, ℕ, ◌-◌, ltb, leb, eqb, length}
 use Rattle.paper.specs.declared.Registers.{Registers}
 use Rattle.paper.specs.declared.Port.{Port}
 use Rattle.paper.specs.declared.Control.{Control}
@@ -14,7 +14,7 @@ use Rattle.paper.specs.declared.Answer.{Answer}
 use Rattle.paper.specs.declared.Answer.TheVariants.{Value, Refused}
 use Rattle.paper.specs.declared.Arrival.{Arrival}
 use Rattle.paper.specs.declared.Arrival.TheVariants.{Refused as RefusedArrival, Ignored, Discarded, Filtered, Dropped, Stored}
-use Rattle.paper.specs.Words.{if◌then◌else◌, bit}
+use Rattle.paper.specs.Words.{bit}
 use Rattle.paper.specs.Memory.{TxData, TxStatus, RxData, RxStatus, Four, size, Change, keeps, puts, takes, restarts}
 use Rattle.paper.specs.Registers.{TXEN, is_register, good_value, read_register, write_register, good_n, one_more, with_drops, with_n, may_resize, may_dump_tx_data, may_dump_rx}
 use Rattle.paper.specs.Fresh.{fresh_port}

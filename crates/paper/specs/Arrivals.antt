@@ -7,7 +7,7 @@
 --   arrival_answer         01's refusal number or value for each answer to an arrival
 -- Differs from 000: full means full (DECISIONS 12).
 -- Assumes nothing.
-use Rattle.std.specs.Prelude.{Bool, not, ◌&&◌, ◌||◌, List, [], ◌∷◌, ℕ, ◌+◌, ◌*◌, ◌/◌, ltb, eqb, length}
+use Rattle.std.specs.Prelude.{if◌then◌else◌, Bool, not, ◌&&◌, ◌||◌, List, [], ◌∷◌, ℕ, ◌+◌, ◌*◌, ◌/◌, ltb, eqb, length}
 use Rattle.paper.specs.declared.Registers.{Registers}
 use Rattle.paper.specs.declared.Room.{Room}
 use Rattle.paper.specs.declared.Room.TheVariants.{Fits, Short}
@@ -16,7 +16,7 @@ use Rattle.paper.specs.declared.Answer.{Answer}
 use Rattle.paper.specs.declared.Answer.TheVariants.{Value, Refused}
 use Rattle.paper.specs.declared.Arrival.{Arrival}
 use Rattle.paper.specs.declared.Arrival.TheVariants.{Refused as RefusedArrival, Ignored, Discarded, Filtered, Dropped, Stored}
-use Rattle.paper.specs.Words.{if◌then◌else◌, bit, only_bits, series, word_at}
+use Rattle.paper.specs.Words.{bit, only_bits, series, word_at}
 use Rattle.paper.specs.Registers.{RXEN, PASSBAD, RXALL}
 use Rattle.paper.specs.Filter.{passes}
 use Rattle.paper.specs.Status.{Look, collision, is_runt, kept}

@@ -10,9 +10,9 @@
 --   fcs_fits s             the last four bytes of s are the FCS of those before; fewer than four bytes never fit
 --   hash s                the register's top six bits as a number, 0 to 63
 -- Assumes nothing.
-use Rattle.std.specs.Prelude.{Bool, true, false, not, ◌&&◌, List, [], ◌∷◌, ◌++◌, map, reverse, ℕ, zero, suc, ◌+◌, ◌-◌, ◌*◌, ◌/◌, ◌%◌, leb, eqb, length, take, replicate}
+use Rattle.std.specs.Prelude.{if◌then◌else◌, Bool, true, false, not, ◌&&◌, List, [], ◌∷◌, ◌++◌, map, reverse, ℕ, zero, suc, ◌+◌, ◌-◌, ◌*◌, ◌/◌, ◌%◌, leb, eqb, length, take, replicate}
 use Rattle.std.specs.Bool.{xor}
-use Rattle.paper.specs.Words.{if◌then◌else◌, word_at, bytes_of}
+use Rattle.paper.specs.Words.{word_at, bytes_of}
 
 unfoldable pub plus : List Bool → List Bool → List Bool
 plus [] q = q

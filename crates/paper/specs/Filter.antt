@@ -8,13 +8,13 @@
 --   passes r head         whether the filter says yes; no for a setting that is undefined, which no register holds
 -- Differs from 000: broadcast is judged first, in every mode (ours).
 -- Assumes nothing.
-use Rattle.std.specs.Prelude.{Bool, true, false, not, List, [], ◌∷◌, ℕ, ◌%◌, take, get_or, replicate}
+use Rattle.std.specs.Prelude.{if◌then◌else◌, Bool, true, false, not, List, [], ◌∷◌, ℕ, ◌%◌, take, get_or, replicate}
 use Rattle.paper.specs.declared.Registers.{Registers}
 use Rattle.paper.specs.declared.Rule.{Rule}
 use Rattle.paper.specs.declared.Rule.TheVariants.{Equal, NotEqual, Hash, Pass}
 use Rattle.paper.specs.declared.Setting.{Setting}
 use Rattle.paper.specs.declared.Setting.TheVariants.{Undefined, Defined}
-use Rattle.paper.specs.Words.{if◌then◌else◌, bit, bits, same}
+use Rattle.paper.specs.Words.{bit, bits, same}
 use Rattle.paper.specs.Registers.{BCAST, setting_of}
 use Rattle.paper.specs.Checksum.{hash}
 

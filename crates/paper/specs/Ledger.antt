@@ -12,12 +12,12 @@
 --   laid p, laid_so_far t   the words of a packet that TX data keeps
 --   put f l, taken f l    the words put into FIFO f since its restart, oldest first, and how many of them were taken since
 -- Assumes nothing.
-use Rattle.std.specs.Prelude.{Bool, true, false, not, ◌&&◌, List, [], ◌∷◌, ◌++◌, map, ℕ, ◌+◌, ltb, leb, eqb, length, take, drop}
+use Rattle.std.specs.Prelude.{if◌then◌else◌, Bool, true, false, not, ◌&&◌, List, [], ◌∷◌, ◌++◌, map, ℕ, ◌+◌, ltb, leb, eqb, length, take, drop}
 use Rattle.paper.specs.declared.Registers.{Registers}
 use Rattle.paper.specs.declared.Refusal.{Refusal}
 use Rattle.paper.specs.declared.Answer.{Answer}
 use Rattle.paper.specs.declared.Answer.TheVariants.{Value, Refused}
-use Rattle.paper.specs.Words.{if◌then◌else◌, bytes_of}
+use Rattle.paper.specs.Words.{bytes_of}
 use Rattle.paper.specs.Memory.{Fifo, TxData, TxStatus, RxData, RxStatus}
 use Rattle.paper.specs.Registers.{write_register, with_n}
 use Rattle.paper.specs.Fresh.{fresh_registers}

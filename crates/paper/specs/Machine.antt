@@ -9,12 +9,11 @@
 --   answer, after         the answer of one call and the world after it
 --   answers, world_after   those of a list of calls
 -- Assumes nothing.
-use Rattle.std.specs.Prelude.{not, ◌&&◌, List, [], ◌∷◌, ℕ, length}
+use Rattle.std.specs.Prelude.{if◌then◌else◌, not, ◌&&◌, List, [], ◌∷◌, ℕ, length}
 use Rattle.paper.specs.declared.Control.{Control}
 use Rattle.paper.specs.declared.State.{State}
 use Rattle.paper.specs.declared.Refusal.TheVariants.{MemoryLength, OutOfRange}
 use Rattle.paper.specs.declared.Answer.{Answer}
-use Rattle.paper.specs.Words.{if◌then◌else◌}
 use Rattle.paper.specs.Memory.{TxData, TxStatus, RxData, RxStatus, Four, size, base, waiting, keeps, takes, restarts, ring_after, memory_after}
 use Rattle.paper.specs.Registers.{rx_fifo_inf, tx_fifo_inf, with_drops}
 use Rattle.paper.specs.Fresh.{fresh_control, fresh_state}

@@ -14,7 +14,7 @@
 --   may_resize, may_dump_tx_data, may_dump_rx    whether setting n, or a dump, is allowed now
 -- Differs from 000: MAC_CR starts at 0 (ours) and no bit but these is carried (DECISIONS 21).
 -- Assumes nothing.
-use Rattle.std.specs.Prelude.{Bool, true, false, not, ◌&&◌, List, [], ◌∷◌, ℕ, ◌+◌, ◌-◌, ◌*◌, ◌%◌, ◌^◌, leb, eqb, get_or}
+use Rattle.std.specs.Prelude.{if◌then◌else◌, Bool, true, false, not, ◌&&◌, List, [], ◌∷◌, ℕ, ◌+◌, ◌-◌, ◌*◌, ◌%◌, ◌^◌, leb, eqb, get_or}
 use Rattle.paper.specs.declared.Registers.{Registers}
 use Rattle.paper.specs.declared.Rule.TheVariants.{Equal, NotEqual, Hash, Pass}
 use Rattle.paper.specs.declared.Setting.{Setting}
@@ -24,7 +24,7 @@ use Rattle.paper.specs.declared.Expect.{Expect}
 use Rattle.paper.specs.declared.Expect.TheVariants.{CommandA, CommandB, Payload}
 use Rattle.paper.specs.declared.Packet.{Packet}
 use Rattle.paper.specs.declared.Packet.TheVariants.{Closed, Opened, Known}
-use Rattle.paper.specs.Words.{if◌then◌else◌, digit, bit, only_bits}
+use Rattle.paper.specs.Words.{digit, bit, only_bits}
 use Rattle.paper.specs.Memory.{Four, size, TxData}
 
 -- 01: "MAC_CR bits carried: 31 RXALL, 20 FDPX (kept, no effect), 19 MCPAS, 18 PRMS, 17 INVFILT, 16 PASSBAD, 15 HO, 13 HPFILT, 11 BCAST, 3 TXEN, 2 RXEN."

@@ -8,12 +8,12 @@
 --   lacks_room             line 6: too few data words free, or no status; by how many wait
 --   sending               the answer to sending, by the packets that are whole and not sent
 -- Assumes nothing.
-use Rattle.std.specs.Prelude.{◌≡◌, Bool, true, false, not, ◌||◌, List, [], ◌∷◌, ℕ, ◌-◌, ltb, leb, length}
+use Rattle.std.specs.Prelude.{if◌then◌else◌, ◌≡◌, Bool, true, false, not, ◌||◌, List, [], ◌∷◌, ℕ, ◌-◌, ltb, leb, length}
 use Rattle.paper.specs.declared.Registers.{Registers}
 use Rattle.paper.specs.declared.Refusal.TheVariants.{SendingOff, OtherBits, NothingThere, StatusFull, OutShort}
 use Rattle.paper.specs.declared.Answer.{Answer}
 use Rattle.paper.specs.declared.Answer.TheVariants.{Value, Refused}
-use Rattle.paper.specs.Words.{if◌then◌else◌, bit}
+use Rattle.paper.specs.Words.{bit}
 use Rattle.paper.specs.Memory.{words_lent, size, TxStatus, RxData, RxStatus}
 use Rattle.paper.specs.Registers.{RXEN, TXEN, RXALL}
 use Rattle.paper.specs.Filter.{passes}

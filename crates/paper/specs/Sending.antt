@@ -10,8 +10,8 @@
 --   out_after frame out    the out buffer after a frame is sent
 -- The head packet is judged from the oldest word on, within the words held; its payload words are free and nothing behind it is judged (DECISIONS 6).
 -- Assumes nothing.
-use Rattle.std.specs.Prelude.{Bool, true, false, not, ◌&&◌, ◌||◌, List, [], ◌∷◌, ◌++◌, ℕ, zero, suc, ◌+◌, ◌-◌, ◌*◌, ◌%◌, ◌^◌, ltb, length, take, drop, replicate}
-use Rattle.paper.specs.Words.{if◌then◌else◌, bit, mark, only_bits, bytes_of}
+use Rattle.std.specs.Prelude.{if◌then◌else◌, Bool, true, false, not, ◌&&◌, ◌||◌, List, [], ◌∷◌, ◌++◌, ℕ, zero, suc, ◌+◌, ◌-◌, ◌*◌, ◌%◌, ◌^◌, ltb, length, take, drop, replicate}
+use Rattle.paper.specs.Words.{bit, mark, only_bits, bytes_of}
 use Rattle.paper.specs.Checksum.{with_fcs}
 use Rattle.paper.specs.Transmission.{offset, buffer_size, is_last, stored_words, good_a, good_length, sizes_agree, tag, no_crc, no_padding, packet_length}
 

@@ -13,7 +13,7 @@
 -- Differs from 000: middle buffers of 1 to 3 bytes pass, and no packet is too finely split (DECISIONS 12). A transmit error stands until TX data is dumped or
 -- the model is reset. "Other bits are stored and mean nothing."
 -- Assumes nothing.
-use Rattle.std.specs.Prelude.{Bool, true, false, not, ◌&&◌, [], ◌∷◌, ℕ, ◌+◌, ◌-◌, ◌*◌, ◌/◌, ◌%◌, ltb, leb, eqb}
+use Rattle.std.specs.Prelude.{if◌then◌else◌, Bool, true, false, not, ◌&&◌, [], ◌∷◌, ℕ, ◌+◌, ◌-◌, ◌*◌, ◌/◌, ◌%◌, ltb, leb, eqb}
 use Rattle.paper.specs.declared.Packet.{Packet}
 use Rattle.paper.specs.declared.Packet.TheVariants.{Closed, Opened, Known}
 use Rattle.paper.specs.declared.Expect.{Expect}
@@ -23,7 +23,7 @@ use Rattle.paper.specs.declared.Refusal.{Refusal}
 use Rattle.paper.specs.declared.Refusal.TheVariants.{ErrorStands, BadCommand, Disagrees, DataFull, OutOfRange}
 use Rattle.paper.specs.declared.Answer.{Answer}
 use Rattle.paper.specs.declared.Answer.TheVariants.{Value, Refused}
-use Rattle.paper.specs.Words.{if◌then◌else◌, bit, bits}
+use Rattle.paper.specs.Words.{bit, bits}
 use Rattle.paper.specs.Memory.{Change, keeps, puts}
 
 -- 01: "A: 25-24 end alignment (0, 1, 2 mean 4, 16, 32 bytes; 3 bad), 20-16 start offset o, 13 first, 12 last, 10-0 size s (0 bad)."

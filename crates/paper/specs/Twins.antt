@@ -9,14 +9,13 @@
 --   Agrees                what it sees of the two runs
 --   host_log cs w          the support log: the answers to the host's calls, receive data words left out
 -- Assumes nothing.
-use Rattle.std.specs.Prelude.{◌≡◌, true, List, [], ◌∷◌, ◌++◌, ℕ, ◌-◌, ltb, length, take}
+use Rattle.std.specs.Prelude.{if◌then◌else◌, ◌≡◌, true, List, [], ◌∷◌, ◌++◌, ℕ, ◌-◌, ltb, length, take}
 use Rattle.paper.specs.declared.Port.{Port}
 use Rattle.paper.specs.declared.Packet.{Packet}
 use Rattle.paper.specs.declared.Expect.TheVariants.{Payload as CountsPayload}
 use Rattle.paper.specs.declared.Answer.{Answer}
 use Rattle.paper.specs.declared.Answer.TheVariants.{Value, Refused}
 use Rattle.paper.specs.declared.Arrival.TheVariants.{Ignored, Discarded, Filtered}
-use Rattle.paper.specs.Words.{if◌then◌else◌}
 use Rattle.paper.specs.Checksum.{fcs_fits}
 use Rattle.paper.specs.Arrivals.{arrival_answer, data_words}
 use Rattle.paper.specs.Calls.{Call, Reset, MacWrite, MacRead, SetSplit, Split, RxFifoInf, TxFifoInf, RxDrop, DumpTxData, DumpTxStatus, DumpRx, Arrive, RxDataRead, RxStatusPop, RxStatusPeek, TxWord, Send, TxStatusPop, TxStatusPeek}

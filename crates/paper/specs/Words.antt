@@ -11,12 +11,7 @@
 --   bytes_of ws            the bytes of words, four each
 --   same s t              the lists s and t are equal
 -- Assumes nothing.
-use Rattle.std.specs.Prelude.{Bool, true, false, ◌&&◌, List, [], ◌∷◌, ℕ, zero, suc, ◌+◌, ◌-◌, ◌*◌, ◌/◌, ◌%◌, ◌^◌, eqb, get_or}
-
-infix 1 if◌then◌else◌
-unfoldable pub if◌then◌else◌ {ℓ} : {A : Type ℓ} → Bool → A → A → A
-if true then x else y = x
-if false then x else y = y
+use Rattle.std.specs.Prelude.{if◌then◌else◌, Bool, true, false, ◌&&◌, List, [], ◌∷◌, ℕ, zero, suc, ◌+◌, ◌-◌, ◌*◌, ◌/◌, ◌%◌, ◌^◌, eqb, get_or}
 
 abbrev pub digit : ℕ → ℕ → ℕ
 digit i v = v / 2 ^ i % 2

@@ -5,6 +5,7 @@
 --   inside, at_in_part    where the part of a FIFO and its oldest word lie
 --   popped, peeked        the contracts of those calls, from what the functions of this crate ensure
 -- Assumes nothing.
+use Rattle.std.specs.Prelude.{if◌then◌else◌}
 use mathlib.Core.Path.{◌≡◌, refl, sym, ap, ◌∙◌}
 use mathlib.Core.Bool.{false}
 use mathlib.Core.List.{List, []}
@@ -19,7 +20,6 @@ use Rattle.paper.specs.declared.State.{State}
 use Rattle.paper.specs.declared.Answer.{Answer}
 use Rattle.paper.specs.declared.Answer.TheVariants.{Value}
 use Rattle.paper.specs.declared.Refusal.TheVariants.{NothingThere}
-use Rattle.paper.specs.Words.{if◌then◌else◌}
 use Rattle.paper.specs.Memory.{Fifo, TxData, TxStatus, RxData, RxStatus, Four, of, size, base, Change, keeps, takes, ring_after, memory_after}
 use Rattle.paper.specs.Calls.{Call, lends}
 use Rattle.paper.specs.Acts.{unchanged, does, refuses, oldest}
@@ -75,7 +75,6 @@ module _ (f : Fifo) (s : State) (m : List ℕ) where
       → (t : State) → ((ring f s).count ≡ 0 → t ≡ s)
       → ((k : ℕ) → (ring f s).count ≡ suc k → apply (does s.control changes word) (world s m) ≡ world t m)
       → told (oldest_of (ring f s).count word) t m ≡ told_of c s m
-  unfolding if◌then◌else◌
   read_told c lent e changes rule t none some = by_count (ring f s).count refl
     where
       decided : {q : List ℕ} → of (waits (world s m)) f ≡ q → decide c s.control (waits (world s m)) ≡ oldest s.control changes q
@@ -93,13 +92,11 @@ module _ (f : Fifo) (s : State) (m : List ℕ) where
 
   -- The ring without its oldest word, where none waits, is the ring.
   rest_none : (ring f s).count ≡ 0 → with_ring f (rest_of (size f (split_of s)) (ring f s)) s ≡ s
-  unfolding if◌then◌else◌
   rest_none empty = rw (eq-eqb _ _ empty) (own_ring f s)
 
   -- Where one waits, it is the ring that a read which takes leaves.
   rest_some : (k : ℕ) → (ring f s).count ≡ suc k
       → apply (does s.control (taking f) word) (world s m) ≡ world (with_ring f (rest_of (size f (split_of s)) (ring f s)) s) m
-  unfolding if◌then◌else◌
   rest_some k there = rw (there, some_count k) (apply_taking f s m word)
 
 -- A read of RX data and a pop take the oldest word of their FIFO.

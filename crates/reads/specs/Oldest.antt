@@ -3,12 +3,11 @@
 --   rest_of size r         the ring without its oldest word; the ring itself where none waits
 --   Rest size r q         q is that ring, and its place is in the ring's range
 -- Assumes nothing.
-use Rattle.std.specs.Prelude.{◌≡◌, ℕ, ◌<◌, eqb}
+use Rattle.std.specs.Prelude.{if◌then◌else◌, ◌≡◌, ℕ, ◌<◌, eqb}
 use Rattle.paper.specs.declared.Ring.{Ring}
 use Rattle.paper.specs.declared.Answer.{Answer}
 use Rattle.paper.specs.declared.Answer.TheVariants.{Value, Refused}
 use Rattle.paper.specs.declared.Refusal.TheVariants.{NothingThere}
-use Rattle.paper.specs.Words.{if◌then◌else◌}
 use Rattle.paper.specs.Memory.{takes, ring_after}
 
 abbrev pub oldest_of : (count w : ℕ) → Answer

@@ -5,6 +5,7 @@
 --   write_no_register .. dumped-rx        each call and case
 --   reset_anew                            reset, on any state
 -- Assumes nothing.
+use Rattle.std.specs.Prelude.{if◌then◌else◌}
 use mathlib.Core.Path.{◌≡◌, refl, sym, ap, ◌∙◌}
 use mathlib.Core.Bool.{Bool, true, false, not}
 use mathlib.Core.List.{List, []}
@@ -18,7 +19,6 @@ use Rattle.paper.specs.declared.Refusal.TheVariants.{NoRegister, BadValue, NotNo
 use Rattle.paper.specs.declared.Answer.{Answer}
 use Rattle.paper.specs.declared.Answer.TheVariants.{Value, Refused}
 use Rattle.paper.specs.declared.Reply.{Reply}
-use Rattle.paper.specs.Words.{if◌then◌else◌}
 use Rattle.paper.specs.Memory.{Four, words_lent, keeps, restarts, ring_after, memory_after}
 use Rattle.paper.specs.Registers.{is_register, good_value, read_register, write_register, good_n, with_drops, with_n, may_resize, may_dump_tx_data, may_dump_rx, rx_fifo_inf, tx_fifo_inf}
 use Rattle.paper.specs.Fresh.{empty, fresh_port, fresh_control, fresh_state}
@@ -50,7 +50,7 @@ module _ {r : Reply} {s : State} {m : List ℕ} {x : Told} where
 
 -- Reset, on any state: the fresh state.
 pub reset_anew : (s : State) (m : List ℕ) → length m ≡ words_lent → told_of Reset s m ≡ told (Value 0) fresh_state m
-unfolding act decide if◌then◌else◌ apply ring_after memory_after
+unfolding act decide apply ring_after memory_after
 reset_anew s m long = told_act Reset s m (does fresh_control restarted 0) (rw (eq-eqb (length m) words_lent long)) refl refl
 
 module _ (s : State) (m : List ℕ) (h : Entered s m) where
@@ -73,47 +73,47 @@ module _ (s : State) (m : List ℕ) (h : Entered s m) where
   module _ (k v : ℕ) where
     -- A write to no register.
     pub write_no_register : is_register k ≡ false → told_of (MacWrite k v) s m ≡ told (Refused NoRegister) s m
-    unfolding decide if◌then◌else◌
+    unfolding decide
     write_no_register e = refuses_so (MacWrite k v) NoRegister refl (rw e)
 
     -- A write of a bad value.
     pub write_bad_value : is_register k ≡ true → good_value k v ≡ false → told_of (MacWrite k v) s m ≡ told (Refused BadValue) s m
-    unfolding decide if◌then◌else◌
+    unfolding decide
     write_bad_value e f = refuses_so (MacWrite k v) BadValue refl (rw (e, f))
 
     -- A write.
     pub written : is_register k ≡ true → good_value k v ≡ true
         → told_of (MacWrite k v) s m ≡ told (Value 0) (with_registers (write_register k v s.control.registers) s) m
-    unfolding decide if◌then◌else◌
+    unfolding decide
     written e f = sets_so (MacWrite k v) (write_register k v s.control.registers) 0 refl (rw (e, f))
 
   module _ (k : ℕ) where
     -- A read of no register.
     pub read_no_register : is_register k ≡ false → told_of (MacRead k) s m ≡ told (Refused NoRegister) s m
-    unfolding decide if◌then◌else◌
+    unfolding decide
     read_no_register e = refuses_so (MacRead k) NoRegister refl (rw e)
 
     -- A read.
     pub read_done : is_register k ≡ true → told_of (MacRead k) s m ≡ told (Value (read_register k s.control.registers)) s m
-    unfolding decide if◌then◌else◌
+    unfolding decide
     read_done e = keeps_so (MacRead k) (read_register k s.control.registers) refl (rw e)
 
   module _ (n : ℕ) where
     -- n outside 2 to 14.
     pub split_bad_value : good_n n ≡ false → told_of (SetSplit n) s m ≡ told (Refused BadValue) s m
-    unfolding decide if◌then◌else◌
+    unfolding decide
     split_bad_value e = refuses_so (SetSplit n) BadValue refl (rw e)
 
     -- n not allowed now.
     pub split_not_now : good_n n ≡ true → may_resize s.control.registers s.control.port (levels_of s) ≡ false
         → told_of (SetSplit n) s m ≡ told (Refused NotNow) s m
-    unfolding decide if◌then◌else◌
+    unfolding decide
     split_not_now e f = refuses_so (SetSplit n) NotNow refl (rw (e, levels_are s m, f))
 
     -- n set.
     pub split_set : good_n n ≡ true → may_resize s.control.registers s.control.port (levels_of s) ≡ true
         → told_of (SetSplit n) s m ≡ told (Value 0) (resized n s) m
-    unfolding decide if◌then◌else◌ apply ring_after memory_after
+    unfolding decide apply ring_after memory_after
     split_set e f =
         told_decided (SetSplit n) s m h.lent h.range refl (does (with_the_registers (with_n n s.control.registers) s.control) restarted 0)
         (rw (e, levels_are s m, f)) refl
@@ -144,12 +144,12 @@ module _ (s : State) (m : List ℕ) (h : Entered s m) where
 
   -- A dump of TX data with TXEN set.
   pub tx_data_not_now : may_dump_tx_data s.control.registers ≡ false → told_of DumpTxData s m ≡ told (Refused NotNow) s m
-  unfolding decide if◌then◌else◌
+  unfolding decide
   tx_data_not_now e = refuses_so DumpTxData NotNow refl (rw e)
 
   -- TX data dumped.
   pub tx_data_dumped : may_dump_tx_data s.control.registers ≡ true → told_of DumpTxData s m ≡ told (Value 0) (without_packets s) m
-  unfolding decide if◌then◌else◌ apply ring_after memory_after
+  unfolding decide apply ring_after memory_after
   tx_data_dumped e =
       told_decided DumpTxData s m h.lent h.range refl
       (does (with_port fresh_port s.control) (record { txdata = restarts; txstatus = keeps; rxdata = keeps; rxstatus = keeps }) 0) (rw e) refl
@@ -162,14 +162,14 @@ module _ (s : State) (m : List ℕ) (h : Entered s m) where
 
   -- A dump of RX with RXEN set.
   pub rx_not_now : may_dump_rx s.control.registers ≡ false → told_of DumpRx s m ≡ told (Refused NotNow) s m
-  unfolding decide if◌then◌else◌
+  unfolding decide
   rx_not_now e = refuses_so DumpRx NotNow refl (rw e)
 
   -- RX dumped.
   pub rx_dumped : may_dump_rx s.control.registers ≡ true
       → told_of DumpRx s m
       ≡ told (Value 0) (record { control = s.control; txdata = s.txdata; txstatus = s.txstatus; rxdata = empty; rxstatus = empty }) m
-  unfolding decide if◌then◌else◌ apply ring_after memory_after
+  unfolding decide apply ring_after memory_after
   rx_dumped e =
       told_decided DumpRx s m h.lent h.range refl
       (does s.control (record { txdata = keeps; txstatus = keeps; rxdata = restarts; rxstatus = restarts }) 0) (rw e) refl

@@ -6,6 +6,7 @@
 --   over_bytes      statuses over four bytes for each word, as the level words have them
 -- Places and widths are numerals where these are cited, so that the tests of them compute: `tt` proves each.
 -- Assumes nothing.
+use Rattle.std.specs.Prelude.{if◌then◌else◌}
 use mathlib.Core.Path.{◌≡◌, refl}
 use mathlib.Core.Bool.{Bool, true, false}
 use Prim.Native.Nat.{ℕ, ◌+◌, ◌*◌, ◌%◌, ◌^◌, ◌<◌}
@@ -16,7 +17,7 @@ use lib.Bits.{bit_or, or_shifted}
 use lib.Dec.{T, leb, leb→le}
 use lib.Pow.{pow-add, pow_mono, shl_exact, shl_lt}
 use mir.Val.{bool_byte}
-use Rattle.paper.specs.Words.{if◌then◌else◌, mark}
+use Rattle.paper.specs.Words.{mark}
 
 pub record Sums (k y z : ℕ) : Type 0 where
   pub sum : y ≡ z
@@ -44,7 +45,6 @@ bool_bound false = omega arith
 
 -- A bool shifted to place k is a mark.
 mark_shifted : (k : ℕ) (b : Bool) → bool_byte b * 2 ^ k ≡ mark k b
-unfolding if◌then◌else◌
 mark_shifted k true = one-mul (2 ^ k)
 mark_shifted k false = zero-mul (2 ^ k)
 

@@ -1,7 +1,7 @@
 // The fields of command words, what they ask of a buffer, and words of which only some bits may be set (01, Words for transmission and Registers).
 // Tests are joined by & and |: each is a comparison of numbers, so stopping early saves nothing, and the one result is proved once.
-ghost use Rattle.std.specs.Prelude.{◌≡◌, ◌≤◌, ◌<◌};
-ghost use Rattle.paper.specs.Words.{if◌then◌else◌, bit, only_bits};
+ghost use Rattle.std.specs.Prelude.{if◌then◌else◌, ◌≡◌, ◌≤◌, ◌<◌};
+ghost use Rattle.paper.specs.Words.{bit, only_bits};
 ghost use Rattle.paper.specs.Registers.{carried, setting_number};
 ghost use Rattle.paper.specs.Arrivals.{good_flags};
 ghost use Rattle.paper.specs.Sending.{good_outcome};
