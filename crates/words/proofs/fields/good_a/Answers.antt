@@ -1,0 +1,16 @@
+-- First is set exactly where no packet is open; the test of an A goes by its three parts.
+use Rattle.std.proofs.Common.{◌≡◌, ℕ, Bool, true, false, refl, ap}
+use mathlib.Core.Bool.{beq}
+use Rattle.std.specs.Prelude.{not, if◌then◌else◌}
+use Rattle.paper.specs.Transmission.{alignment_field, buffer_size, is_first, good_a}
+use Rattle.words.proofs.fields.good_a.Goals as goal
+
+differs : (first opened : Bool) → not (beq first opened) ≡ (if opened then not first else first)
+differs true true = refl
+differs true false = refl
+differs false true = refl
+differs false false = refl
+
+pub returns : goal.returns
+unfolding good_a
+returns c = rw (c.alignment_field.ensures, c.buffer_size.ensures, c.is_first.ensures, differs (is_first c.args.a) c.args.opened)
