@@ -1,0 +1,11 @@
+-- The words left, put into the ring and the memory as they are now, come to the same as all of them put at the start. The measure is how many are left.
+use Rattle.std.proofs.Common.{◌-◌}
+use Rattle.paper.specs.Arrivals.{data_words}
+use Rattle.rings.proofs.Puts.{Going}
+use Rattle.rings.proofs.put_frame.Given as goal
+
+abbrev pub invariant-loop-k : goal.invariant-loop-k
+invariant-loop-k l = Going l.base l.size (data_words l.frame) l.initial.q l.initial.mem l.q l.mem l.k
+
+abbrev pub decreases-loop-k : goal.decreases-loop-k
+decreases-loop-k l = l.total - l.k
