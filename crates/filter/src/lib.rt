@@ -103,6 +103,7 @@ pub const SETTINGS: [Setting; 32] = [
 ];
 
 // The setting with number k.
+#[tactic(auto, unfolding(paper::specs::Registers::settings))]
 pub fn setting_at(k: usize) -> Setting
     requires { k < 32 }
     ensures { result ≡ get_or settings k (Setting.Undefined) }
@@ -170,6 +171,7 @@ pub fn in_hash(r: Registers, frame: &[u8]) -> bool
 }
 
 // The destination passes under one rule of the table.
+#[tactic(auto, unfolding(paper::specs::Filter::passes_rule))]
 pub fn passes_rule(rule: Rule, r: Registers, frame: &[u8]) -> bool
     requires { 14 ≤ length frame.now }
     ensures { result ≡ passes_rule rule r (destination (take 14 frame.now)) }
@@ -184,6 +186,7 @@ pub fn passes_rule(rule: Rule, r: Registers, frame: &[u8]) -> bool
 
 // The destination, if no broadcast, passes under a setting: by the rule for group addresses, or by that for individual ones. None passes where the setting
 // is undefined.
+#[tactic(auto, unfolding(paper::specs::Filter::passes_setting))]
 fn passes_setting(setting: Setting, r: Registers, frame: &[u8]) -> bool
     requires { 14 ≤ length frame.now }
     ensures { result ≡ passes_setting setting r (take 14 frame.now) }
@@ -201,6 +204,7 @@ fn passes_setting(setting: Setting, r: Registers, frame: &[u8]) -> bool
 }
 
 // The filter says yes (01: "Destination FFFFFFFFFFFFh passes exactly when BCAST is clear, in every mode (ours). Otherwise, by .. the setting").
+#[tactic(auto, unfolding(paper::specs::Filter::passes))]
 pub fn passes(r: Registers, frame: &[u8]) -> bool
     requires { 14 ≤ length frame.now }
     ensures { result ≡ passes r (take 14 frame.now) }
