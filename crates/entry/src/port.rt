@@ -57,6 +57,7 @@ fn a_in_range(p: Packet, a: u32) -> bool
 }
 
 // A buffer whose payload is counted: its A, the words left, its packet.
+#[tactic(auto, unfolding(paper::specs::Refusals::expect_in_range))]
 fn payload_in_range(a: u32, left: u32, packet: Packet) -> bool
     ensures { result ≡ expect_in_range (Expect.Payload a left packet) }
 {
@@ -66,6 +67,7 @@ fn payload_in_range(a: u32, left: u32, packet: Packet) -> bool
 }
 
 // What the port expects next is in its range.
+#[tactic(auto, unfolding(paper::specs::Refusals::expect_in_range))]
 pub fn expect_in_range(e: Expect) -> bool
     ensures { result ≡ expect_in_range e }
 {

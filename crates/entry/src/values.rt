@@ -42,6 +42,7 @@ pub fn good_maccr(v: u32) -> bool
 }
 
 // Each register holds what a write accepts; ADDRL, HASHH, HASHL and RX_DROP hold any word.
+#[tactic(auto, unfolding(paper::specs::Registers::good_registers))]
 pub fn good_registers(r: Registers) -> bool
     ensures { result ≡ good_registers r }
 {
