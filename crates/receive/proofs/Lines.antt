@@ -15,7 +15,8 @@ use Rattle.paper.specs.Words.{bit}
 use Rattle.paper.specs.Memory.{RxData, RxStatus, size, base, Four, puts, ring_after, memory_after}
 use Rattle.paper.specs.Filter.{passes}
 use Rattle.paper.specs.Status.{Look, look, longest, status}
-use Rattle.paper.specs.Arrivals.{words_for, data_words, room, by_room, arrival, arrival_answer}
+use Rattle.paper.specs.Registers.{RXEN, RXALL}
+use Rattle.paper.specs.Arrivals.{refuses_length, good_flags, discards, words_for, data_words, room, by_room, arrival, arrival_answer}
 use Rattle.paper.specs.Refusals.{in_range}
 use Rattle.paper.specs.Calls.{Arrive}
 use Rattle.paper.specs.Acts.{arrives, arrive}
@@ -66,11 +67,11 @@ module _ (r : Registers) (words statuses : ℕ) (l : Look) where
   stored_says : Says (arrival r words statuses l)
   unfolding arrival
   stored_says =
-      if_cases Says _ (λ _. other kind_of_answer refl refl) λ good.
-      if_cases Says _ (λ _. other kind_of_answer refl refl) λ flags.
-      if_cases Says _ (λ _. other kind_of_answer refl refl) λ receiving.
-      if_cases Says _ (λ _. other kind_of_answer refl refl) λ whole.
-      if_cases Says _ (λ _. other kind_of_answer refl refl) λ passed.
+      if_cases Says (refuses_length l.len) (λ _. other kind_of_answer refl refl) λ good.
+      if_cases Says (not (good_flags l.flags)) (λ _. other kind_of_answer refl refl) λ flags.
+      if_cases Says (not (bit RXEN r.maccr)) (λ _. other kind_of_answer refl refl) λ receiving.
+      if_cases Says (discards r l) (λ _. other kind_of_answer refl refl) λ whole.
+      if_cases Says (not (passes r l.head) && not (bit RXALL r.maccr)) (λ _. other kind_of_answer refl refl) λ passed.
       room_says (record {
         least = ltb-false _ _ (or_neither (ltb l.len 14) _ whole).0;
         most = ltb-false _ _ (or_neither (eqb l.len 0) _ good).1;

@@ -37,6 +37,7 @@ fn filters(r: Registers, frame: &[u8]) -> bool
 }
 
 // 01, line 6: a frame of len bytes finds its data words and one status free, or not.
+#[tactic(auto, unfolding(paper::specs::Arrivals::room))]
 fn has_room(len: u32, words: u32, statuses: u32) -> Room
     requires { len ≤ 2048 }
     ensures { result ≡ room len words statuses }
@@ -85,6 +86,7 @@ fn judge(r: Registers, words: u32, statuses: u32, frame: &[u8], flags: u32) -> A
 }
 
 // The first line that applies (01: "The first line that applies answers").
+#[tactic(auto, unfolding(paper::specs::Arrivals::arrival))]
 pub fn verdict(s: State, frame: &[u8], flags: u32) -> Arrival
     requires { in_range s ≡ true }
     ensures { result ≡ verdict_of s (look frame.now flags) }

@@ -40,7 +40,7 @@ fn put_data(s: State, mem: &mut [u32], frame: &[u8]) -> Ring
 // Puts a status into RX status, where one is free.
 fn put_status(s: State, mem: &mut [u32], w: u32) -> Ring
     requires entered { Entered s mem.old }
-    requires count_bound { s.rxstatus.count < size RxStatus s.control.registers.n }
+    requires free { s.rxstatus.count < size RxStatus s.control.registers.n }
     ensures { Changed (base RxStatus s.control.registers.n) (size RxStatus s.control.registers.n) (puts (w ∷ [])) s.rxstatus result mem.old mem.new }
 {
     let n = s.control.registers.n;
@@ -82,7 +82,7 @@ fn count_drop(s: State) -> State
 // What the line that answers does: Stored writes, Dropped counts, the others leave all as it was.
 fn act_on(a: Arrival, s: State, mem: &mut [u32], frame: &[u8], flags: u32) -> State
     requires entered { Entered s mem.old }
-    requires a_value { a ≡ verdict_of s (look frame.now flags) }
+    requires judged { a ≡ verdict_of s (look frame.now flags) }
     ensures { Leaves (arrived_at a s mem.old frame.now flags) result mem.new }
 {
     match a {
