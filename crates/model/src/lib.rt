@@ -1,7 +1,7 @@
 // The public calls. Each takes the state by value and the lent memory, and answers the state after it with its answer (01, Refusal numbers).
 // No call relies on its caller: each refuses 14, where the lent memory is not 4,096 words, then 15, where a number of the state is out of its range, and changes nothing; then come
 // the refusals that its comment lists, in that order. Each contract is one equation with `step` of the definitions.
-#![tactic(auto)]
+#![tactic(auto, using(entry::proofs::Entered::told_shut))]
 
 ghost use Rattle.std.specs.Prelude.{◌≡◌};
 ghost use Rattle.paper.specs.Arrivals.{arrival_answer};

@@ -25,6 +25,7 @@ pub fn good_value(k: u32, v: u32) -> bool
 }
 
 // Register k, as stored; 0 where there is none.
+#[tactic(auto, unfolding(paper::specs::Registers::read_register))]
 pub fn read_register(k: u32, r: Registers) -> u32
     ensures { result ≡ read_register k r }
 {
@@ -39,6 +40,7 @@ pub fn read_register(k: u32, r: Registers) -> u32
 }
 
 // The registers after a write of v to register k; the same where there is none.
+#[tactic(auto, unfolding(paper::specs::Registers::write_register))]
 pub fn write_register(k: u32, v: u32, r: Registers) -> Registers
     ensures { result ≡ write_register k v r }
 {
