@@ -1,60 +1,58 @@
 // Shows the fresh state and the receive filter's 32 settings, as the proved code gives them.
 #![tactic(auto)]
 
-use libc::STDOUT_FILENO;
 use paper::{Rule, Setting, State};
+use std::io;
 
-fn text(s: &[u8]) {
-    io::write_all(STDOUT_FILENO, s);
+fn text(rt: &impl Print, s: &str) -> io::Result<()> {
+    rt.print(s)
 }
 
 // A register's name and its value in hexadecimal.
-fn register(name: &[u8], value: u32) {
-    text(name);
-    io::print_hex(STDOUT_FILENO, value as u64, 8);
-    text(b"\n");
+fn register(rt: &impl Print, name: &str, value: u32) -> io::Result<()> {
+    println!(rt; "{name}{value:08x}")
 }
 
-fn rule(r: Rule) {
+fn rule(rt: &impl Print, r: Rule) -> io::Result<()> {
     match r {
-        Rule::Equal => text(b" equal"),
-        Rule::NotEqual => text(b" not-equal"),
-        Rule::Hash => text(b" hash"),
-        Rule::Pass => text(b" pass"),
+        Rule::Equal => text(rt, " equal"),
+        Rule::NotEqual => text(rt, " not-equal"),
+        Rule::Hash => text(rt, " hash"),
+        Rule::Pass => text(rt, " pass"),
     }
 }
 
 // A setting: its number, and its rules for group and individual addresses.
-fn line(number: usize, s: Setting) {
-    text(b"setting ");
-    io::print_decimal(STDOUT_FILENO, number as u64);
+fn line(rt: &impl Print, number: usize, s: Setting) -> io::Result<()> {
+    print!(rt; "setting {number}")?;
     match s {
-        Setting::Undefined => text(b" undefined"),
+        Setting::Undefined => text(rt, " undefined")?,
         Setting::Defined { group, individual } => {
-            rule(group);
-            rule(individual);
+            rule(rt, group)?;
+            rule(rt, individual)?;
         }
     }
-    text(b"\n");
+    text(rt, "\n")
 }
 
 // The 32 settings.
-fn settings() {
+fn settings(rt: &impl Print) -> io::Result<()> {
     for k in 0..32 {
-        line(k, filter::setting_at(k));
+        line(rt, k, filter::setting_at(k))?;
     }
+    Ok(())
 }
 
-fn main() {
+fn main(rt: HostRuntime) -> io::Result<()> {
     let s = State::fresh();
     let k = s.control;
     let r = k.registers;
-    register(b"TX_FIF_SZ ", r.n);
-    register(b"MAC_CR    ", r.maccr);
-    register(b"ADDRH     ", r.addrh);
-    register(b"ADDRL     ", r.addrl);
-    register(b"HASHH     ", r.hashh);
-    register(b"HASHL     ", r.hashl);
-    register(b"RX_DROP   ", r.drops);
-    settings();
+    register(&rt, "TX_FIF_SZ ", r.n)?;
+    register(&rt, "MAC_CR    ", r.maccr)?;
+    register(&rt, "ADDRH     ", r.addrh)?;
+    register(&rt, "ADDRL     ", r.addrl)?;
+    register(&rt, "HASHH     ", r.hashh)?;
+    register(&rt, "HASHL     ", r.hashl)?;
+    register(&rt, "RX_DROP   ", r.drops)?;
+    settings(&rt)
 }

@@ -1,8 +1,8 @@
 // Part `memory`, and the seventeen calls, each on the same state (docs/REHEARSAL.md).
 use crate::frames::{Space, To};
-use crate::lines::text;
 use crate::{frames, lines, trials};
 use paper::{Reply, State};
+use std::io;
 
 // What stands before a call's name.
 #[derive(Clone, Copy)]
@@ -14,51 +14,51 @@ pub enum Prefix {
     Split(usize),
 }
 
-fn label(p: Prefix, name: &[u8]) {
+fn label(rt: &impl Print, p: Prefix, name: &str) -> io::Result<()> {
     match p {
-        Prefix::Memory(length) => {
-            text(b"memory ");
-            lines::number(length);
-        }
-        Prefix::Both => text(b"both"),
-        Prefix::Off => text(b"off"),
-        Prefix::On => text(b"on"),
-        Prefix::Split(n) => {
-            text(b"n ");
-            lines::number(n);
-        }
+        Prefix::Memory(length) => print!(rt; "memory {length} {name}"),
+        Prefix::Both => print!(rt; "both {name}"),
+        Prefix::Off => print!(rt; "off {name}"),
+        Prefix::On => print!(rt; "on {name}"),
+        Prefix::Split(n) => print!(rt; "n {n} {name}"),
     }
-    text(b" ");
-    text(name);
 }
 
-fn line(p: Prefix, name: &[u8], r: Reply, mem: &[u32]) {
-    label(p, name);
-    trials::called(r, mem);
+fn line(rt: &impl Print, p: Prefix, name: &str, r: Reply, mem: &[u32]) -> io::Result<()> {
+    label(rt, p, name)?;
+    trials::called(rt, r, mem)?;
+    Ok(())
 }
 
 // The calls for registers and restarts.
-fn register_calls(p: Prefix, s: State, mem: &[u32]) {
-    line(p, b"reset", model::reset(s, mem), mem);
+fn register_calls(rt: &impl Print, p: Prefix, s: State, mem: &[u32]) -> io::Result<()> {
+    line(rt, p, "reset", model::reset(s, mem), mem)?;
     line(
+        rt,
         p,
-        b"mac_write",
+        "mac_write",
         model::mac_write(s, mem, 4, 0x1234_5678),
         mem,
-    );
-    line(p, b"mac_read", model::mac_read(s, mem, 2), mem);
-    line(p, b"set_split", model::set_split(s, mem, 6), mem);
-    line(p, b"split", model::split(s, mem), mem);
-    line(p, b"rx_fifo_inf", model::rx_fifo_inf(s, mem), mem);
-    line(p, b"tx_fifo_inf", model::tx_fifo_inf(s, mem), mem);
-    line(p, b"rx_drop", model::rx_drop(s, mem), mem);
-    line(p, b"dump_tx_data", model::dump_tx_data(s, mem), mem);
-    line(p, b"dump_tx_status", model::dump_tx_status(s, mem), mem);
-    line(p, b"dump_rx", model::dump_rx(s, mem), mem);
+    )?;
+    line(rt, p, "mac_read", model::mac_read(s, mem, 2), mem)?;
+    line(rt, p, "set_split", model::set_split(s, mem, 6), mem)?;
+    line(rt, p, "split", model::split(s, mem), mem)?;
+    line(rt, p, "rx_fifo_inf", model::rx_fifo_inf(s, mem), mem)?;
+    line(rt, p, "tx_fifo_inf", model::tx_fifo_inf(s, mem), mem)?;
+    line(rt, p, "rx_drop", model::rx_drop(s, mem), mem)?;
+    line(rt, p, "dump_tx_data", model::dump_tx_data(s, mem), mem)?;
+    line(rt, p, "dump_tx_status", model::dump_tx_status(s, mem), mem)?;
+    line(rt, p, "dump_rx", model::dump_rx(s, mem), mem)
 }
 
 // An arriving frame, its answer in numbers.
-fn arrive_call(p: Prefix, s: State, mem: &mut [u32], space: &[u8]) {
+fn arrive_call(
+    rt: &impl Print,
+    p: Prefix,
+    s: State,
+    mem: &mut [u32],
+    space: &[u8],
+) -> io::Result<()> {
     let a = trials::arrive(s, mem, space, 64, 0);
     let met = a.answer;
     let after = a.state;
@@ -67,24 +67,30 @@ fn arrive_call(p: Prefix, s: State, mem: &mut [u32], space: &[u8]) {
         answer: answer,
         state: after,
     };
-    line(p, b"arrive", r, mem);
+    line(rt, p, "arrive", r, mem)
 }
 
 // The host's reads.
-fn read_calls(p: Prefix, s: State, mem: &[u32]) {
-    line(p, b"rx_data_read", model::rx_data_read(s, mem), mem);
-    line(p, b"rx_status_pop", model::rx_status_pop(s, mem), mem);
-    line(p, b"rx_status_peek", model::rx_status_peek(s, mem), mem);
-    line(p, b"tx_status_pop", model::tx_status_pop(s, mem), mem);
-    line(p, b"tx_status_peek", model::tx_status_peek(s, mem), mem);
+fn read_calls(rt: &impl Print, p: Prefix, s: State, mem: &[u32]) -> io::Result<()> {
+    line(rt, p, "rx_data_read", model::rx_data_read(s, mem), mem)?;
+    line(rt, p, "rx_status_pop", model::rx_status_pop(s, mem), mem)?;
+    line(rt, p, "rx_status_peek", model::rx_status_peek(s, mem), mem)?;
+    line(rt, p, "tx_status_pop", model::tx_status_pop(s, mem), mem)?;
+    line(rt, p, "tx_status_peek", model::tx_status_peek(s, mem), mem)
 }
 
 // The seventeen calls.
-pub fn each(p: Prefix, s: State, mem: &mut [u32], space: &mut Space) {
+pub fn each(
+    rt: &impl Print,
+    p: Prefix,
+    s: State,
+    mem: &mut [u32],
+    space: &mut Space,
+) -> io::Result<()> {
     frames::make(space, 64, trials::TYPE, 1, To::Ours);
-    register_calls(p, s, mem);
-    arrive_call(p, s, mem, space);
-    read_calls(p, s, mem);
+    register_calls(rt, p, s, mem)?;
+    arrive_call(rt, p, s, mem, space)?;
+    read_calls(rt, p, s, mem)
 }
 
 // B(5, 00010004h), of the first 4,096 words.
@@ -96,28 +102,36 @@ fn based(mem: &[u32]) -> State {
 }
 
 // The seventeen calls, with so many words lent.
-fn front(length: usize, s: State, mem: &mut [u32], space: &mut Space) {
+fn front(
+    rt: &impl Print,
+    length: usize,
+    s: State,
+    mem: &mut [u32],
+    space: &mut Space,
+) -> io::Result<()> {
     if length <= mem.len() {
-        each(Prefix::Memory(length), s, &mut mem[..length], space);
+        each(rt, Prefix::Memory(length), s, &mut mem[..length], space)?;
     }
+    Ok(())
 }
 
 // A word too few, and a state that is out of its range: 14 comes before 15.
-fn both(s: State, mem: &mut [u32], space: &mut Space) {
+fn both(rt: &impl Print, s: State, mem: &mut [u32], space: &mut Space) -> io::Result<()> {
     if 4095 <= mem.len() {
         let forged = trials::with_n(s, 15);
-        each(Prefix::Both, forged, &mut mem[..4095], space);
+        each(rt, Prefix::Both, forged, &mut mem[..4095], space)?;
     }
+    Ok(())
 }
 
 // One word more than is lent to a call that is not refused.
-pub fn part(mem: &mut [u32; 4097], space: &mut Space) {
-    lines::part(b"memory");
+pub fn part(rt: &impl Print, mem: &mut [u32; 4097], space: &mut Space) -> io::Result<()> {
+    lines::part(rt, "memory")?;
     trials::fill(mem);
     let s = based(mem);
-    front(0, s, mem, space);
-    front(4095, s, mem, space);
-    front(4097, s, mem, space);
-    front(4096, s, mem, space);
-    both(s, mem, space);
+    front(rt, 0, s, mem, space)?;
+    front(rt, 4095, s, mem, space)?;
+    front(rt, 4097, s, mem, space)?;
+    front(rt, 4096, s, mem, space)?;
+    both(rt, s, mem, space)
 }

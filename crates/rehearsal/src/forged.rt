@@ -3,15 +3,15 @@ use crate::calls::Prefix;
 use crate::frames::Space;
 use crate::lines::text;
 use crate::trials::Memory;
-use crate::{calls, lines, trials};
+use crate::{calls, trials};
 use paper::{Control, Expect, Packet, Port, Registers, Ring, State};
+use std::io;
 
 // The line of a forged state: what was changed, to what, and what rx_fifo_inf answers.
-fn line(name: &[u8], v: u32, s: State, mem: &[u32]) {
-    text(name);
-    text(b" ");
-    lines::value(v);
-    trials::called(model::rx_fifo_inf(s, mem), mem);
+fn line(rt: &impl Print, name: &str, v: u32, s: State, mem: &[u32]) -> io::Result<()> {
+    print!(rt; "{name} {v:08x}")?;
+    trials::called(rt, model::rx_fifo_inf(s, mem), mem)?;
+    Ok(())
 }
 
 fn with_registers(s: State, registers: Registers) -> State {
@@ -38,56 +38,56 @@ fn with_port(s: State, expect: Expect, whole: u32) -> State {
     after
 }
 
-fn n(s: State, v: u32, mem: &[u32]) {
-    line(b"n", v, trials::with_n(s, v), mem);
+fn n(rt: &impl Print, s: State, v: u32, mem: &[u32]) -> io::Result<()> {
+    line(rt, "n", v, trials::with_n(s, v), mem)
 }
 
-fn maccr(s: State, v: u32, mem: &[u32]) {
+fn maccr(rt: &impl Print, s: State, v: u32, mem: &[u32]) -> io::Result<()> {
     let control = s.control;
     let mut r = control.registers;
     r.maccr = v;
-    line(b"maccr", v, with_registers(s, r), mem);
+    line(rt, "maccr", v, with_registers(s, r), mem)
 }
 
-fn addrh(s: State, v: u32, mem: &[u32]) {
+fn addrh(rt: &impl Print, s: State, v: u32, mem: &[u32]) -> io::Result<()> {
     let control = s.control;
     let mut r = control.registers;
     r.addrh = v;
-    line(b"addrh", v, with_registers(s, r), mem);
+    line(rt, "addrh", v, with_registers(s, r), mem)
 }
 
 // The registers that may hold any word.
-fn any_word(s: State, v: u32, mem: &[u32]) {
+fn any_word(rt: &impl Print, s: State, v: u32, mem: &[u32]) -> io::Result<()> {
     let control = s.control;
     let mut l = control.registers;
     l.addrl = v;
-    line(b"addrl", v, with_registers(s, l), mem);
+    line(rt, "addrl", v, with_registers(s, l), mem)?;
     let mut hh = control.registers;
     hh.hashh = v;
-    line(b"hashh", v, with_registers(s, hh), mem);
+    line(rt, "hashh", v, with_registers(s, hh), mem)?;
     let mut hl = control.registers;
     hl.hashl = v;
-    line(b"hashl", v, with_registers(s, hl), mem);
+    line(rt, "hashl", v, with_registers(s, hl), mem)?;
     let mut d = control.registers;
     d.drops = v;
-    line(b"drops", v, with_registers(s, d), mem);
+    line(rt, "drops", v, with_registers(s, d), mem)
 }
 
-fn registers(s: State, mem: &[u32]) {
-    n(s, 0, mem);
-    n(s, 1, mem);
-    n(s, 2, mem);
-    n(s, 14, mem);
-    n(s, 15, mem);
-    n(s, 0xFFFF_FFFF, mem);
-    maccr(s, 0x801D_A80C, mem);
-    maccr(s, 0x801F_A80C, mem);
-    maccr(s, 1, mem);
-    maccr(s, 0xFFFF_FFFF, mem);
-    addrh(s, 0xFFFF, mem);
-    addrh(s, 0x1_0000, mem);
-    addrh(s, 0xFFFF_FFFF, mem);
-    any_word(s, 0xFFFF_FFFF, mem);
+fn registers(rt: &impl Print, s: State, mem: &[u32]) -> io::Result<()> {
+    n(rt, s, 0, mem)?;
+    n(rt, s, 1, mem)?;
+    n(rt, s, 2, mem)?;
+    n(rt, s, 14, mem)?;
+    n(rt, s, 15, mem)?;
+    n(rt, s, 0xFFFF_FFFF, mem)?;
+    maccr(rt, s, 0x801D_A80C, mem)?;
+    maccr(rt, s, 0x801F_A80C, mem)?;
+    maccr(rt, s, 1, mem)?;
+    maccr(rt, s, 0xFFFF_FFFF, mem)?;
+    addrh(rt, s, 0xFFFF, mem)?;
+    addrh(rt, s, 0x1_0000, mem)?;
+    addrh(rt, s, 0xFFFF_FFFF, mem)?;
+    any_word(rt, s, 0xFFFF_FFFF, mem)
 }
 
 // One of the four FIFOs.
@@ -99,12 +99,12 @@ enum Fifo {
     RxStatus,
 }
 
-fn name(f: Fifo) {
+fn name(rt: &impl Print, f: Fifo) -> io::Result<()> {
     match f {
-        Fifo::TxData => text(b"txdata"),
-        Fifo::TxStatus => text(b"txstatus"),
-        Fifo::RxData => text(b"rxdata"),
-        Fifo::RxStatus => text(b"rxstatus"),
+        Fifo::TxData => text(rt, "txdata"),
+        Fifo::TxStatus => text(rt, "txstatus"),
+        Fifo::RxData => text(rt, "rxdata"),
+        Fifo::RxStatus => text(rt, "rxstatus"),
     }
 }
 
@@ -119,133 +119,149 @@ fn with_ring(s: State, f: Fifo, r: Ring) -> State {
     after
 }
 
-fn label(split: u32, f: Fifo) {
-    text(b"n ");
-    lines::number(split as usize);
-    text(b" ");
-    name(f);
+fn label(rt: &impl Print, split: u32, f: Fifo) -> io::Result<()> {
+    print!(rt; "n {split} ")?;
+    name(rt, f)
 }
 
-fn place(split: u32, s: State, f: Fifo, v: u32, mem: &[u32]) {
-    label(split, f);
-    line(b" place", v, with_ring(s, f, Ring { at: v, count: 0 }), mem);
+fn place(rt: &impl Print, split: u32, s: State, f: Fifo, v: u32, mem: &[u32]) -> io::Result<()> {
+    label(rt, split, f)?;
+    line(
+        rt,
+        " place",
+        v,
+        with_ring(s, f, Ring { at: v, count: 0 }),
+        mem,
+    )
 }
 
-fn count(split: u32, s: State, f: Fifo, v: u32, mem: &[u32]) {
-    label(split, f);
-    line(b" count", v, with_ring(s, f, Ring { at: 0, count: v }), mem);
+fn count(rt: &impl Print, split: u32, s: State, f: Fifo, v: u32, mem: &[u32]) -> io::Result<()> {
+    label(rt, split, f)?;
+    line(
+        rt,
+        " count",
+        v,
+        with_ring(s, f, Ring { at: 0, count: v }),
+        mem,
+    )
 }
 
 // A FIFO's last place and count, those past them, and the last word of all.
-fn edges(split: u32, s: State, f: Fifo, size: u32, mem: &[u32]) {
-    place(split, s, f, std::num::wrapping_sub_u32(size, 1), mem);
-    place(split, s, f, size, mem);
-    place(split, s, f, 0xFFFF_FFFF, mem);
-    count(split, s, f, size, mem);
-    count(split, s, f, std::num::wrapping_add_u32(size, 1), mem);
-    count(split, s, f, 0xFFFF_FFFF, mem);
+fn edges(rt: &impl Print, split: u32, s: State, f: Fifo, size: u32, mem: &[u32]) -> io::Result<()> {
+    place(rt, split, s, f, std::num::wrapping_sub_u32(size, 1), mem)?;
+    place(rt, split, s, f, size, mem)?;
+    place(rt, split, s, f, 0xFFFF_FFFF, mem)?;
+    count(rt, split, s, f, size, mem)?;
+    count(rt, split, s, f, std::num::wrapping_add_u32(size, 1), mem)?;
+    count(rt, split, s, f, 0xFFFF_FFFF, mem)
 }
 
 // The four FIFOs, of these sizes.
-fn rings(split: u32, txdata: u32, rxdata: u32, rxstatus: u32, mem: &[u32]) {
+fn rings(
+    rt: &impl Print,
+    split: u32,
+    txdata: u32,
+    rxdata: u32,
+    rxstatus: u32,
+    mem: &[u32],
+) -> io::Result<()> {
     let s = trials::base(split, trials::PASSBAD, mem);
-    edges(split, s, Fifo::TxData, txdata, mem);
-    edges(split, s, Fifo::TxStatus, 128, mem);
-    edges(split, s, Fifo::RxData, rxdata, mem);
-    edges(split, s, Fifo::RxStatus, rxstatus, mem);
+    edges(rt, split, s, Fifo::TxData, txdata, mem)?;
+    edges(rt, split, s, Fifo::TxStatus, 128, mem)?;
+    edges(rt, split, s, Fifo::RxData, rxdata, mem)?;
+    edges(rt, split, s, Fifo::RxStatus, rxstatus, mem)
 }
 
 // Whole packets, with so many words of TX data held.
-fn whole(s: State, held: u32, v: u32, mem: &[u32]) {
+fn whole(rt: &impl Print, s: State, held: u32, v: u32, mem: &[u32]) -> io::Result<()> {
     let filled = with_ring(s, Fifo::TxData, Ring { at: 0, count: held });
     let after = with_port(filled, Expect::CommandA(Packet::Closed), v);
-    text(b"held ");
-    lines::number(held as usize);
-    line(b" whole", v, after, mem);
+    print!(rt; "held {held}")?;
+    line(rt, " whole", v, after, mem)
 }
 
 // An A held, no packet open before it.
-fn first_a(s: State, a: u32, mem: &[u32]) {
+fn first_a(rt: &impl Print, s: State, a: u32, mem: &[u32]) -> io::Result<()> {
     let expect = Expect::CommandB {
         a: a,
         packet: Packet::Opened,
     };
-    line(b"first a", a, with_port(s, expect, 0), mem);
+    line(rt, "first a", a, with_port(s, expect, 0), mem)
 }
 
 // An A held, in an open packet.
-fn later_a(s: State, a: u32, mem: &[u32]) {
+fn later_a(rt: &impl Print, s: State, a: u32, mem: &[u32]) -> io::Result<()> {
     let expect = Expect::CommandB {
         a: a,
         packet: Packet::Known { b: 100, sizes: 10 },
     };
-    line(b"later a", a, with_port(s, expect, 0), mem);
+    line(rt, "later a", a, with_port(s, expect, 0), mem)
 }
 
 // The first B of an open packet.
-fn open_b(s: State, b: u32, mem: &[u32]) {
+fn open_b(rt: &impl Print, s: State, b: u32, mem: &[u32]) -> io::Result<()> {
     let expect = Expect::CommandA(Packet::Known { b: b, sizes: 1 });
-    line(b"open b", b, with_port(s, expect, 0), mem);
+    line(rt, "open b", b, with_port(s, expect, 0), mem)
 }
 
 // The sizes so far of an open packet.
-fn sizes(s: State, v: u32, mem: &[u32]) {
+fn sizes(rt: &impl Print, s: State, v: u32, mem: &[u32]) -> io::Result<()> {
     let expect = Expect::CommandA(Packet::Known { b: 64, sizes: v });
-    line(b"sizes", v, with_port(s, expect, 0), mem);
+    line(rt, "sizes", v, with_port(s, expect, 0), mem)
 }
 
 // The payload words left of a buffer: 20 are asked for.
-fn left(s: State, v: u32, mem: &[u32]) {
+fn left(rt: &impl Print, s: State, v: u32, mem: &[u32]) -> io::Result<()> {
     let expect = Expect::Payload {
         a: 0x0105_203D,
         left: v,
         packet: Packet::Known { b: 61, sizes: 61 },
     };
-    line(b"left", v, with_port(s, expect, 0), mem);
+    line(rt, "left", v, with_port(s, expect, 0), mem)
 }
 
-fn commands(s: State, mem: &[u32]) {
-    first_a(s, 0x0000_2001, mem);
-    first_a(s, 0x0000_2000, mem);
-    first_a(s, 0x0000_0001, mem);
-    first_a(s, 0x0200_2001, mem);
-    first_a(s, 0x0300_2001, mem);
-    first_a(s, 0x001F_37FF, mem);
-    later_a(s, 0x0000_0001, mem);
-    later_a(s, 0x0000_2001, mem);
-    later_a(s, 0x0000_0000, mem);
-    open_b(s, 0x0000_0001, mem);
-    open_b(s, 0x0000_0000, mem);
-    open_b(s, 0x0000_05EA, mem);
-    open_b(s, 0x0000_05EB, mem);
-    open_b(s, 0x0000_25EE, mem);
-    open_b(s, 0x0000_25EF, mem);
+fn commands(rt: &impl Print, s: State, mem: &[u32]) -> io::Result<()> {
+    first_a(rt, s, 0x0000_2001, mem)?;
+    first_a(rt, s, 0x0000_2000, mem)?;
+    first_a(rt, s, 0x0000_0001, mem)?;
+    first_a(rt, s, 0x0200_2001, mem)?;
+    first_a(rt, s, 0x0300_2001, mem)?;
+    first_a(rt, s, 0x001F_37FF, mem)?;
+    later_a(rt, s, 0x0000_0001, mem)?;
+    later_a(rt, s, 0x0000_2001, mem)?;
+    later_a(rt, s, 0x0000_0000, mem)?;
+    open_b(rt, s, 0x0000_0001, mem)?;
+    open_b(rt, s, 0x0000_0000, mem)?;
+    open_b(rt, s, 0x0000_05EA, mem)?;
+    open_b(rt, s, 0x0000_05EB, mem)?;
+    open_b(rt, s, 0x0000_25EE, mem)?;
+    open_b(rt, s, 0x0000_25EF, mem)
 }
 
-fn port(s: State, mem: &[u32]) {
-    whole(s, 5, 1, mem);
-    whole(s, 5, 2, mem);
-    whole(s, 5, 0xFFFF_FFFF, mem);
-    whole(s, 6, 2, mem);
-    whole(s, 6, 3, mem);
-    commands(s, mem);
-    sizes(s, 64, mem);
-    sizes(s, 65, mem);
-    sizes(s, 0xFFFF_FFFF, mem);
-    left(s, 0, mem);
-    left(s, 1, mem);
-    left(s, 20, mem);
-    left(s, 21, mem);
-    left(s, 0xFFFF_FFFF, mem);
+fn port(rt: &impl Print, s: State, mem: &[u32]) -> io::Result<()> {
+    whole(rt, s, 5, 1, mem)?;
+    whole(rt, s, 5, 2, mem)?;
+    whole(rt, s, 5, 0xFFFF_FFFF, mem)?;
+    whole(rt, s, 6, 2, mem)?;
+    whole(rt, s, 6, 3, mem)?;
+    commands(rt, s, mem)?;
+    sizes(rt, s, 64, mem)?;
+    sizes(rt, s, 65, mem)?;
+    sizes(rt, s, 0xFFFF_FFFF, mem)?;
+    left(rt, s, 0, mem)?;
+    left(rt, s, 1, mem)?;
+    left(rt, s, 20, mem)?;
+    left(rt, s, 21, mem)?;
+    left(rt, s, 0xFFFF_FFFF, mem)
 }
 
-pub fn part(mem: &mut Memory, space: &mut Space) {
-    trials::begin(b"state", mem);
+pub fn part(rt: &impl Print, mem: &mut Memory, space: &mut Space) -> io::Result<()> {
+    trials::begin(rt, "state", mem)?;
     let s = trials::base(5, trials::PASSBAD, mem);
-    registers(s, mem);
-    rings(2, 384, 3360, 224, mem);
-    rings(5, 1152, 2640, 176, mem);
-    rings(14, 3456, 480, 32, mem);
-    port(s, mem);
-    calls::each(Prefix::Split(15), trials::with_n(s, 15), mem, space);
+    registers(rt, s, mem)?;
+    rings(rt, 2, 384, 3360, 224, mem)?;
+    rings(rt, 5, 1152, 2640, 176, mem)?;
+    rings(rt, 14, 3456, 480, 32, mem)?;
+    port(rt, s, mem)?;
+    calls::each(rt, Prefix::Split(15), trials::with_n(s, 15), mem, space)
 }

@@ -4,6 +4,7 @@ use crate::frames::Space;
 use crate::trials::Memory;
 use crate::{calls, trials};
 use paper::{Control, Expect, Packet, Port, Ring, State};
+use std::io;
 
 // H(MAC_CR).
 fn holding(maccr: u32, mem: &[u32]) -> State {
@@ -27,10 +28,10 @@ fn holding(maccr: u32, mem: &[u32]) -> State {
     }
 }
 
-pub fn part(mem: &mut Memory, space: &mut Space) {
-    trials::begin(b"held", mem);
+pub fn part(rt: &impl Print, mem: &mut Memory, space: &mut Space) -> io::Result<()> {
+    trials::begin(rt, "held", mem)?;
     let off = holding(0, mem);
-    calls::each(Prefix::Off, off, mem, space);
+    calls::each(rt, Prefix::Off, off, mem, space)?;
     let on = holding(0x0000_000C, mem);
-    calls::each(Prefix::On, on, mem, space);
+    calls::each(rt, Prefix::On, on, mem, space)
 }

@@ -3,28 +3,26 @@ ghost use Rattle.std.specs.Prelude.{◌≡◌};
 ghost use Rattle.paper.specs.Arrivals.{arrival_answer};
 ghost use Rattle.paper.specs.Refusals.{number, said};
 
-use libc::STDOUT_FILENO;
 use paper::{Answer, Arrival, Refusal, Said};
+use std::io;
 
-pub fn text(s: &[u8]) {
-    io::write_all(STDOUT_FILENO, s);
+pub fn text(rt: &impl Print, s: &str) -> io::Result<()> {
+    rt.print(s)
 }
 
 // Eight hexadecimal digits.
-pub fn value(v: u32) {
-    io::print_hex(STDOUT_FILENO, v as u64, 8);
+pub fn value(rt: &impl Print, v: u32) -> io::Result<()> {
+    print!(rt; "{v:08x}")
 }
 
 // A decimal number.
-pub fn number(k: usize) {
-    io::print_decimal(STDOUT_FILENO, k as u64);
+pub fn number(rt: &impl Print, k: usize) -> io::Result<()> {
+    rt.print(k)
 }
 
 // The line that begins a part.
-pub fn part(name: &[u8]) {
-    text(b"== ");
-    text(name);
-    text(b"\n");
+pub fn part(rt: &impl Print, name: &str) -> io::Result<()> {
+    println!(rt; "== {name}")
 }
 
 // 01's number of a refusal.
@@ -67,25 +65,25 @@ pub fn numbers(a: Answer) -> Said
 }
 
 // An answer in numbers.
-pub fn said(a: Answer) {
+pub fn said(rt: &impl Print, a: Answer) -> io::Result<()> {
     let s = numbers(a);
-    number(s.refusal as usize);
-    text(b" ");
-    value(s.value);
+    number(rt, s.refusal as usize)?;
+    text(rt, " ")?;
+    value(rt, s.value)
 }
 
 // The answer to an arriving frame, by its name.
-pub fn arrival(a: Arrival) {
+pub fn arrival(rt: &impl Print, a: Arrival) -> io::Result<()> {
     match a {
         Arrival::Refused(k) => {
-            text(b"refused ");
-            number(number_of(k) as usize);
+            text(rt, "refused ")?;
+            number(rt, number_of(k) as usize)
         }
-        Arrival::Ignored => text(b"Ignored"),
-        Arrival::Discarded => text(b"Discarded"),
-        Arrival::Filtered => text(b"Filtered"),
-        Arrival::Dropped => text(b"Dropped"),
-        Arrival::Stored => text(b"Stored"),
+        Arrival::Ignored => text(rt, "Ignored"),
+        Arrival::Discarded => text(rt, "Discarded"),
+        Arrival::Filtered => text(rt, "Filtered"),
+        Arrival::Dropped => text(rt, "Dropped"),
+        Arrival::Stored => text(rt, "Stored"),
     }
 }
 

@@ -1,9 +1,9 @@
 // Part `long`: 10,000 steps by drawn numbers, each answer of which goes into one digest (docs/REHEARSAL.md).
 use crate::frames::{Space, To};
-use crate::lines::text;
 use crate::trials::Memory;
 use crate::{digests, frames, lines, settings, trials};
 use paper::{Answer, Reply, State};
+use std::io;
 
 // The state, what the page calls x, and the digest of all answers so far.
 #[derive(Clone, Copy)]
@@ -187,36 +187,41 @@ fn steps(from: usize, run: Run, mem: &mut Memory, space: &mut Space) -> Run {
     at
 }
 
-fn line(made: usize, run: Run, mem: &[u32]) {
-    text(b"step ");
-    lines::number(made);
-    text(b": answers ");
-    lines::value(run.answers);
-    trials::digests(run.state, mem);
+fn line(rt: &impl Print, made: usize, run: Run, mem: &[u32]) -> io::Result<()> {
+    let answers = run.answers;
+    print!(rt; "step {made}: answers {answers:08x}")?;
+    trials::digests(rt, run.state, mem)
 }
 
 // Five hundred steps, and their line.
-fn stretch(j: usize, run: Run, mem: &mut Memory, space: &mut Space) -> Run {
+fn stretch(
+    rt: &impl Print,
+    j: usize,
+    run: Run,
+    mem: &mut Memory,
+    space: &mut Space,
+) -> io::Result<Run> {
     let from = j % 20 * 500;
     let at = steps(from, run, mem, space);
-    line(from + 500, at, mem);
-    at
+    line(rt, from + 500, at, mem)?;
+    Ok(at)
 }
 
-fn stretches(run: Run, mem: &mut Memory, space: &mut Space) {
+fn stretches(rt: &impl Print, run: Run, mem: &mut Memory, space: &mut Space) -> io::Result<()> {
     let mut at = run;
     for j in 0..20 {
-        at = stretch(j, at, mem, space);
+        at = stretch(rt, j, at, mem, space)?;
     }
+    Ok(())
 }
 
-pub fn part(mem: &mut Memory, space: &mut Space) {
-    trials::begin(b"long", mem);
+pub fn part(rt: &impl Print, mem: &mut Memory, space: &mut Space) -> io::Result<()> {
+    trials::begin(rt, "long", mem)?;
     let s = trials::base(5, trials::RXEN, mem);
     let run = Run {
         state: s,
         x: 2463534242,
         answers: 0,
     };
-    stretches(run, mem, space);
+    stretches(rt, run, mem, space)
 }

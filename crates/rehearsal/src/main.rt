@@ -29,24 +29,26 @@ mod settings;
 mod takes;
 mod trials;
 
-fn main() {
+use std::io;
+
+fn main(rt: HostRuntime) -> io::Result<()> {
     let mut words: [u32; 4096] = [0; 4096];
     let mem: &mut [u32; 4096] = &mut words;
     let mut bytes: [u8; 2049] = [0; 2049];
     let space: &mut [u8; 2049] = &mut bytes;
-    takes::part(5, mem, space);
-    takes::part(14, mem, space);
+    takes::part(&rt, 5, mem, space)?;
+    takes::part(&rt, 14, mem, space)?;
     let mut more: [u32; 4097] = [0; 4097];
-    calls::part(&mut more, space);
-    forged::part(mem, space);
-    held::part(mem, space);
-    arrivals::lengths(mem, space);
-    arrivals::flags(mem, space);
-    settings::registers(mem);
-    settings::restarts(mem, space);
-    arrivals::types(mem, space);
-    arrivals::fcs(mem, space);
-    filters::part(mem, space);
-    room::part(mem, space);
-    long::part(mem, space);
+    calls::part(&rt, &mut more, space)?;
+    forged::part(&rt, mem, space)?;
+    held::part(&rt, mem, space)?;
+    arrivals::lengths(&rt, mem, space)?;
+    arrivals::flags(&rt, mem, space)?;
+    settings::registers(&rt, mem)?;
+    settings::restarts(&rt, mem, space)?;
+    arrivals::types(&rt, mem, space)?;
+    arrivals::fcs(&rt, mem, space)?;
+    filters::part(&rt, mem, space)?;
+    room::part(&rt, mem, space)?;
+    long::part(&rt, mem, space)
 }

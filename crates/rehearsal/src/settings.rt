@@ -4,41 +4,43 @@ use crate::lines::text;
 use crate::trials::Memory;
 use crate::{lines, trials};
 use paper::State;
+use std::io;
 
 // Register k is read, and 0 is written to it.
-fn register(s: State, k: u32, mem: &[u32]) {
-    text(b"read ");
-    lines::value(k);
-    trials::called(model::mac_read(s, mem, k), mem);
-    text(b"write ");
-    lines::value(k);
-    trials::called(model::mac_write(s, mem, k, 0), mem);
+fn register(rt: &impl Print, s: State, k: u32, mem: &[u32]) -> io::Result<()> {
+    print!(rt; "read {k:08x}")?;
+    trials::called(rt, model::mac_read(s, mem, k), mem)?;
+    print!(rt; "write {k:08x}")?;
+    trials::called(rt, model::mac_write(s, mem, k, 0), mem)?;
+    Ok(())
 }
 
 // A value is written to ADDRH.
-fn addrh(s: State, v: u32, mem: &[u32]) {
-    text(b"addrh ");
-    lines::value(v);
-    trials::called(model::mac_write(s, mem, 2, v), mem);
+fn addrh(rt: &impl Print, s: State, v: u32, mem: &[u32]) -> io::Result<()> {
+    print!(rt; "addrh {v:08x}")?;
+    trials::called(rt, model::mac_write(s, mem, 2, v), mem)?;
+    Ok(())
 }
 
 // A value is written to MAC_CR.
-fn maccr(s: State, v: u32, mem: &[u32]) {
-    lines::value(v);
-    trials::called(model::mac_write(s, mem, 1, v), mem);
+fn maccr(rt: &impl Print, s: State, v: u32, mem: &[u32]) -> io::Result<()> {
+    lines::value(rt, v)?;
+    trials::called(rt, model::mac_write(s, mem, 1, v), mem)?;
+    Ok(())
 }
 
 // Bit i of MAC_CR alone.
-fn maccr_bit(s: State, i: u32, mem: &[u32]) {
-    text(b"maccr ");
-    maccr(s, trials::bit(i), mem);
+fn maccr_bit(rt: &impl Print, s: State, i: u32, mem: &[u32]) -> io::Result<()> {
+    text(rt, "maccr ")?;
+    maccr(rt, s, trials::bit(i), mem)
 }
 
 // Each bit of MAC_CR alone.
-fn maccr_bits(s: State, mem: &[u32]) {
+fn maccr_bits(rt: &impl Print, s: State, mem: &[u32]) -> io::Result<()> {
     for i in 0..32u32 {
-        maccr_bit(s, i, mem);
+        maccr_bit(rt, s, i, mem)?;
     }
+    Ok(())
 }
 
 // MAC_CR with the five mode bits of setting k: MCPAS, PRMS, INVFILT, HO, HPFILT.
@@ -48,94 +50,95 @@ pub fn maccr_of(k: u32) -> u32 {
 }
 
 // MAC_CR with setting k.
-fn maccr_setting(s: State, k: u32, mem: &[u32]) {
-    text(b"setting ");
-    lines::number(k as usize);
-    text(b" ");
-    maccr(s, maccr_of(k), mem);
+fn maccr_setting(rt: &impl Print, s: State, k: u32, mem: &[u32]) -> io::Result<()> {
+    print!(rt; "setting {k} ")?;
+    maccr(rt, s, maccr_of(k), mem)
 }
 
 // Each of the 32 settings.
-fn maccr_settings(s: State, mem: &[u32]) {
+fn maccr_settings(rt: &impl Print, s: State, mem: &[u32]) -> io::Result<()> {
     for k in 0..32u32 {
-        maccr_setting(s, k, mem);
+        maccr_setting(rt, s, k, mem)?;
     }
+    Ok(())
 }
 
-pub fn registers(mem: &mut Memory) {
-    trials::begin(b"registers", mem);
+pub fn registers(rt: &impl Print, mem: &mut Memory) -> io::Result<()> {
+    trials::begin(rt, "registers", mem)?;
     let s = trials::base(5, trials::PASSBAD, mem);
-    register(s, 0, mem);
-    register(s, 1, mem);
-    register(s, 2, mem);
-    register(s, 3, mem);
-    register(s, 4, mem);
-    register(s, 5, mem);
-    register(s, 6, mem);
-    register(s, 0xFFFF_FFFF, mem);
-    addrh(s, 0xFFFF, mem);
-    addrh(s, 0x1_0000, mem);
-    addrh(s, 0xFFFF_FFFF, mem);
+    register(rt, s, 0, mem)?;
+    register(rt, s, 1, mem)?;
+    register(rt, s, 2, mem)?;
+    register(rt, s, 3, mem)?;
+    register(rt, s, 4, mem)?;
+    register(rt, s, 5, mem)?;
+    register(rt, s, 6, mem)?;
+    register(rt, s, 0xFFFF_FFFF, mem)?;
+    addrh(rt, s, 0xFFFF, mem)?;
+    addrh(rt, s, 0x1_0000, mem)?;
+    addrh(rt, s, 0xFFFF_FFFF, mem)?;
     let off = trials::base(5, 0, mem);
-    maccr_bits(off, mem);
-    maccr_settings(off, mem);
+    maccr_bits(rt, off, mem)?;
+    maccr_settings(rt, off, mem)
 }
 
 // n is set.
-fn split(s: State, n: u32, mem: &[u32]) {
-    text(b"set_split ");
-    lines::value(n);
-    trials::called(model::set_split(s, mem, n), mem);
+fn split(rt: &impl Print, s: State, n: u32, mem: &[u32]) -> io::Result<()> {
+    print!(rt; "set_split {n:08x}")?;
+    trials::called(rt, model::set_split(s, mem, n), mem)?;
+    Ok(())
 }
 
-fn splits(mem: &[u32]) {
+fn splits(rt: &impl Print, mem: &[u32]) -> io::Result<()> {
     let off = trials::base(5, 0, mem);
-    split(off, 0, mem);
-    split(off, 1, mem);
-    split(off, 2, mem);
-    split(off, 14, mem);
-    split(off, 15, mem);
-    split(off, 0xFFFF_FFFF, mem);
-    split(trials::base(5, trials::RXEN, mem), 6, mem);
-    split(trials::base(5, trials::TXEN, mem), 6, mem);
+    split(rt, off, 0, mem)?;
+    split(rt, off, 1, mem)?;
+    split(rt, off, 2, mem)?;
+    split(rt, off, 14, mem)?;
+    split(rt, off, 15, mem)?;
+    split(rt, off, 0xFFFF_FFFF, mem)?;
+    split(rt, trials::base(5, trials::RXEN, mem), 6, mem)?;
+    split(rt, trials::base(5, trials::TXEN, mem), 6, mem)
 }
 
 // The three dumps, with this MAC_CR.
-fn dumps(maccr: u32, mem: &[u32]) {
+fn dumps(rt: &impl Print, maccr: u32, mem: &[u32]) -> io::Result<()> {
     let s = trials::base(5, maccr, mem);
-    text(b"dump_rx");
-    trials::called(model::dump_rx(s, mem), mem);
-    text(b"dump_tx_data");
-    trials::called(model::dump_tx_data(s, mem), mem);
-    text(b"dump_tx_status");
-    trials::called(model::dump_tx_status(s, mem), mem);
+    text(rt, "dump_rx")?;
+    trials::called(rt, model::dump_rx(s, mem), mem)?;
+    text(rt, "dump_tx_data")?;
+    trials::called(rt, model::dump_tx_data(s, mem), mem)?;
+    text(rt, "dump_tx_status")?;
+    trials::called(rt, model::dump_tx_status(s, mem), mem)?;
+    Ok(())
 }
 
 // n is set while a frame waits, while its words do, and when both FIFOs are empty again.
-fn waiting(mem: &mut Memory, space: &mut Space) {
+fn waiting(rt: &impl Print, mem: &mut Memory, space: &mut Space) -> io::Result<()> {
     let s = trials::base(5, trials::RXEN, mem);
-    text(b"waiting");
-    let held = trials::arrives_new(s, mem, space, 64, trials::TYPE, 1, 0);
-    text(b"maccr");
-    let off = trials::called(model::mac_write(held, mem, 1, 0), mem);
-    text(b"set_split");
-    let refused = trials::called(model::set_split(off, mem, 6), mem);
-    text(b"status");
-    let popped = trials::called(model::rx_status_pop(refused, mem), mem);
-    text(b"set_split");
-    let again = trials::called(model::set_split(popped, mem, 6), mem);
-    text(b"dump_rx");
-    let empty = trials::called(model::dump_rx(again, mem), mem);
-    text(b"set_split");
-    let resized = trials::called(model::set_split(empty, mem, 6), mem);
-    text(b"split");
-    trials::called(model::split(resized, mem), mem);
+    text(rt, "waiting")?;
+    let held = trials::arrives_new(rt, s, mem, space, 64, trials::TYPE, 1, 0)?;
+    text(rt, "maccr")?;
+    let off = trials::called(rt, model::mac_write(held, mem, 1, 0), mem)?;
+    text(rt, "set_split")?;
+    let refused = trials::called(rt, model::set_split(off, mem, 6), mem)?;
+    text(rt, "status")?;
+    let popped = trials::called(rt, model::rx_status_pop(refused, mem), mem)?;
+    text(rt, "set_split")?;
+    let again = trials::called(rt, model::set_split(popped, mem, 6), mem)?;
+    text(rt, "dump_rx")?;
+    let empty = trials::called(rt, model::dump_rx(again, mem), mem)?;
+    text(rt, "set_split")?;
+    let resized = trials::called(rt, model::set_split(empty, mem, 6), mem)?;
+    text(rt, "split")?;
+    trials::called(rt, model::split(resized, mem), mem)?;
+    Ok(())
 }
 
-pub fn restarts(mem: &mut Memory, space: &mut Space) {
-    trials::begin(b"restarts", mem);
-    splits(mem);
-    dumps(trials::RXEN, mem);
-    dumps(trials::TXEN, mem);
-    waiting(mem, space);
+pub fn restarts(rt: &impl Print, mem: &mut Memory, space: &mut Space) -> io::Result<()> {
+    trials::begin(rt, "restarts", mem)?;
+    splits(rt, mem)?;
+    dumps(rt, trials::RXEN, mem)?;
+    dumps(rt, trials::TXEN, mem)?;
+    waiting(rt, mem, space)
 }

@@ -4,6 +4,7 @@ use crate::lines::text;
 use crate::trials::Memory;
 use crate::{digests, frames, lines, trials};
 use paper::{Answer, State};
+use std::io;
 
 // The takes of a round.
 const TAKES: usize = 48;
@@ -48,30 +49,38 @@ fn flags_of(k: usize) -> u32 {
 }
 
 // Take k arrives.
-fn take(k: usize, s: State, mem: &mut Memory, space: &mut Space) -> State {
+fn take(
+    rt: &impl Print,
+    k: usize,
+    s: State,
+    mem: &mut Memory,
+    space: &mut Space,
+) -> io::Result<State> {
     let length = length_of(k);
     frames::make(space, length, type_of(k), k, destination_of(k));
     let a = trials::arrive(s, mem, space, length, flags_of(k));
     let after = a.state;
     let answer = a.answer;
-    text(b"take ");
-    lines::number(k);
-    text(b" length ");
-    lines::number(length);
-    text(b": ");
-    lines::arrival(answer);
-    trials::levels(after, mem);
-    text(b"\n");
-    after
+    print!(rt; "take {k} length {length}: ")?;
+    lines::arrival(rt, answer)?;
+    trials::levels(rt, after, mem)?;
+    text(rt, "\n")?;
+    Ok(after)
 }
 
 // The takes of a round, 0 or 1.
-fn takes(round: usize, s: State, mem: &mut Memory, space: &mut Space) -> State {
+fn takes(
+    rt: &impl Print,
+    round: usize,
+    s: State,
+    mem: &mut Memory,
+    space: &mut Space,
+) -> io::Result<State> {
     let mut at = s;
     for k in 0..TAKES {
-        at = take(round % 2 * TAKES + k, at, mem, space);
+        at = take(rt, round % 2 * TAKES + k, at, mem, space)?;
     }
-    at
+    Ok(at)
 }
 
 // A state, and the digest of the words read so far.
@@ -108,68 +117,62 @@ fn read_words(count: u32, s: State, mem: &[u32]) -> Read {
 }
 
 // Pops a status and reads its frame; nothing where none waits.
-fn read_frame(s: State, mem: &[u32]) -> State {
+fn read_frame(rt: &impl Print, s: State, mem: &[u32]) -> io::Result<State> {
     let r = model::rx_status_pop(s, mem);
     let after = r.state;
     let answer = r.answer;
     let Answer::Value(status) = answer else {
-        return s;
+        return Ok(s);
     };
     let length = status / 65536 % 16384;
     let count = (length + 3) / 4;
     let x = read_words(count, after, mem);
-    text(b"status ");
-    lines::value(status);
-    text(b" words ");
-    lines::number(count as usize);
-    text(b" digest ");
-    lines::value(x.digest);
-    text(b"\n");
-    x.state
+    let digest = x.digest;
+    println!(rt; "status {status:08x} words {count} digest {digest:08x}")?;
+    Ok(x.state)
 }
 
 // Reads all frames. No split has more than 224 statuses.
-fn read_frames(s: State, mem: &[u32]) -> State {
+fn read_frames(rt: &impl Print, s: State, mem: &[u32]) -> io::Result<State> {
     let mut at = s;
     for _ in 0..224u32 {
-        at = read_frame(at, mem);
+        at = read_frame(rt, at, mem)?;
     }
-    at
+    Ok(at)
 }
 
 // Reads everything back, and shows that nothing is left.
-fn read_back(s: State, mem: &[u32]) -> State {
-    let at = read_frames(s, mem);
-    text(b"status");
-    let none = trials::called(model::rx_status_pop(at, mem), mem);
-    text(b"data");
-    let empty = trials::called(model::rx_data_read(none, mem), mem);
-    text(b"drop");
-    let cleared = trials::called(model::rx_drop(empty, mem), mem);
-    text(b"drop");
-    trials::called(model::rx_drop(cleared, mem), mem)
+fn read_back(rt: &impl Print, s: State, mem: &[u32]) -> io::Result<State> {
+    let at = read_frames(rt, s, mem)?;
+    text(rt, "status")?;
+    let none = trials::called(rt, model::rx_status_pop(at, mem), mem)?;
+    text(rt, "data")?;
+    let empty = trials::called(rt, model::rx_data_read(none, mem), mem)?;
+    text(rt, "drop")?;
+    let cleared = trials::called(rt, model::rx_drop(empty, mem), mem)?;
+    text(rt, "drop")?;
+    trials::called(rt, model::rx_drop(cleared, mem), mem)
 }
 
 // The state that takes arrive at, each of its calls on a line.
-fn prepared(n: u32, mem: &[u32]) -> State {
-    text(b"set_split");
-    let split = trials::called(model::set_split(State::fresh(), mem, n), mem);
-    text(b"addrh");
-    let high = trials::called(model::mac_write(split, mem, 2, 0x0000_5544), mem);
-    text(b"addrl");
-    let low = trials::called(model::mac_write(high, mem, 3, 0x3322_1102), mem);
-    text(b"maccr");
-    trials::called(model::mac_write(low, mem, 1, trials::RXEN), mem)
+fn prepared(rt: &impl Print, n: u32, mem: &[u32]) -> io::Result<State> {
+    text(rt, "set_split")?;
+    let split = trials::called(rt, model::set_split(State::fresh(), mem, n), mem)?;
+    text(rt, "addrh")?;
+    let high = trials::called(rt, model::mac_write(split, mem, 2, 0x0000_5544), mem)?;
+    text(rt, "addrl")?;
+    let low = trials::called(rt, model::mac_write(high, mem, 3, 0x3322_1102), mem)?;
+    text(rt, "maccr")?;
+    trials::called(rt, model::mac_write(low, mem, 1, trials::RXEN), mem)
 }
 
-pub fn part(n: u32, mem: &mut Memory, space: &mut Space) {
-    text(b"== takes ");
-    lines::number(n as usize);
-    text(b"\n");
+pub fn part(rt: &impl Print, n: u32, mem: &mut Memory, space: &mut Space) -> io::Result<()> {
+    println!(rt; "== takes {n}")?;
     trials::fill(mem);
-    let start = prepared(n, mem);
-    let full = takes(0, start, mem, space);
-    let read = read_back(full, mem);
-    let again = takes(1, read, mem, space);
-    read_back(again, mem);
+    let start = prepared(rt, n, mem)?;
+    let full = takes(rt, 0, start, mem, space)?;
+    let read = read_back(rt, full, mem)?;
+    let again = takes(rt, 1, read, mem, space)?;
+    read_back(rt, again, mem)?;
+    Ok(())
 }

@@ -3,6 +3,7 @@ use crate::frames::{Space, To};
 use crate::lines::text;
 use crate::{digests, frames, lines};
 use paper::{Arrived, Reply, State};
+use std::io;
 
 // The lent memory.
 pub type Memory = [u32; 4096];
@@ -32,9 +33,10 @@ pub fn fill(mem: &mut [u32]) {
 }
 
 // The line that begins a part, and filled memory.
-pub fn begin(name: &[u8], mem: &mut Memory) {
-    lines::part(name);
+pub fn begin(rt: &impl Print, name: &str, mem: &mut Memory) -> io::Result<()> {
+    lines::part(rt, name)?;
     fill(mem);
+    Ok(())
 }
 
 // B(n, MAC_CR).
@@ -58,37 +60,35 @@ pub fn with_n(s: State, n: u32) -> State {
 }
 
 // The digests of state and memory, and the line's end.
-pub fn digests(s: State, mem: &[u32]) {
-    text(b" state ");
-    lines::value(digests::of_state(s));
-    text(b" memory ");
-    lines::value(digests::of_memory(mem));
-    text(b"\n");
+pub fn digests(rt: &impl Print, s: State, mem: &[u32]) -> io::Result<()> {
+    let state = digests::of_state(s);
+    let memory = digests::of_memory(mem);
+    println!(rt; " state {state:08x} memory {memory:08x}")
 }
 
 // The rest of a call line, after its label. Answers the state after the call.
-pub fn called(r: Reply, mem: &[u32]) -> State {
+pub fn called(rt: &impl Print, r: Reply, mem: &[u32]) -> io::Result<State> {
     let after = r.state;
     let answer = r.answer;
-    text(b": ");
-    lines::said(answer);
-    digests(after, mem);
-    after
+    text(rt, ": ")?;
+    lines::said(rt, answer)?;
+    digests(rt, after, mem)?;
+    Ok(after)
 }
 
 // What a call answered, under its name.
-pub fn asked(name: &[u8], r: Reply) {
+pub fn asked(rt: &impl Print, name: &str, r: Reply) -> io::Result<()> {
     let answer = r.answer;
-    text(name);
-    lines::said(answer);
+    text(rt, name)?;
+    lines::said(rt, answer)
 }
 
 // What rx_fifo_inf and rx_drop answer, asked of copies.
-pub fn levels(s: State, mem: &[u32]) {
+pub fn levels(rt: &impl Print, s: State, mem: &[u32]) -> io::Result<()> {
     let level = model::rx_fifo_inf(s, mem);
     let drops = model::rx_drop(s, mem);
-    asked(b" inf ", level);
-    asked(b" drop ", drops);
+    asked(rt, " inf ", level)?;
+    asked(rt, " drop ", drops)
 }
 
 // The frame of this length at the front of the space arrives.
@@ -98,20 +98,28 @@ pub fn arrive(s: State, mem: &mut [u32], space: &[u8], length: usize, flags: u32
 }
 
 // The rest of an arrival line, after its label. Answers the state after the arrival.
-pub fn arrives(s: State, mem: &mut Memory, space: &Space, length: usize, flags: u32) -> State {
+pub fn arrives(
+    rt: &impl Print,
+    s: State,
+    mem: &mut Memory,
+    space: &Space,
+    length: usize,
+    flags: u32,
+) -> io::Result<State> {
     let a = arrive(s, mem, space, length, flags);
     let after = a.state;
     let answer = a.answer;
-    text(b": ");
-    lines::arrival(answer);
-    levels(after, mem);
-    asked(b" peek ", model::rx_status_peek(after, mem));
-    digests(after, mem);
-    after
+    text(rt, ": ")?;
+    lines::arrival(rt, answer)?;
+    levels(rt, after, mem)?;
+    asked(rt, " peek ", model::rx_status_peek(after, mem))?;
+    digests(rt, after, mem)?;
+    Ok(after)
 }
 
 // The same for frame(length, v, k, ours), made in the space given.
 pub fn arrives_new(
+    rt: &impl Print,
     s: State,
     mem: &mut Memory,
     space: &mut Space,
@@ -119,7 +127,7 @@ pub fn arrives_new(
     v: u32,
     k: usize,
     flags: u32,
-) -> State {
+) -> io::Result<State> {
     frames::make(space, length, v, k, To::Ours);
-    arrives(s, mem, space, length, flags)
+    arrives(rt, s, mem, space, length, flags)
 }
