@@ -119,11 +119,11 @@ fn put_fcs(tail: &mut [u8], fcs: u32) {
 }
 
 // A frame's length; at most that of the space.
-pub fn fitting(length: usize, space: &[u8]) -> usize
+pub fn fitting(long: usize, space: &[u8]) -> usize
     ensures { result ≤ length space.now }
 {
-    if length < space.len() {
-        length
+    if long < space.len() {
+        long
     } else {
         space.len()
     }
