@@ -1,14 +1,14 @@
 # make test: the gate (tools/gate).
 # make demo: proves and runs the demo, and prints what it writes. make rehearsal: the same for a rehearsal's takes and bad input (docs/REHEARSAL.md).
 # make expected: writes the lines that the rehearsal must print, as the second program gives them.
-# A program is run by rt check, which ends here unless it writes its file stdout to the byte; rt also runs it where the processor is not the program's own.
+# A program is proved and run by rt run, also where the processor is not the program's own, and must write its file stdout to the byte.
 .PHONY: test demo rehearsal expected
 
 test:
 	@tools/gate
 
 demo rehearsal:
-	@rt check $@ && cat crates/$@/stdout
+	@cd crates/$@ && mkdir -p out && rt run >out/printed && cat out/printed && cmp out/printed stdout
 
 expected:
 	@CARGO_TARGET_DIR=rust/target cargo run --offline --release --quiet --manifest-path rust/second/Cargo.toml --bin rehearsal > crates/rehearsal/stdout
