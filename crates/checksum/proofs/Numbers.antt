@@ -1,12 +1,12 @@
 -- Lists of bits and their numbers (specs/Checksum of `paper`).
---   worth b                      a bit as a number, 0 or 1
---   number_of-cons                the number of a list, its first bit split off
+--   worth b                        a bit as a number, 0 or 1
+--   number_of-cons                 the number of a list, its first bit split off
 --   number_of_half, number_of_odd  its half is the number of the rest, its lowest bit the first
 --   number_of-plus, number_of_not  of a sum; of a complement
 --   number_of-bits_of              the number of the k low bits of v is v % 2^k
---   bits_of-length                they are k
+--   bits_of-length                 they are k
 --   bits_of-number_of              the k low bits of a list's number are its first k
---   number_of_six                 the number of six bits turned round
+--   number_of_six                  the number of six bits turned round
 -- Assumes nothing.
 use Rattle.std.specs.Prelude.{if◌then◌else◌}
 use mathlib.Core.Path.{◌≡◌, refl, sym, ap, ap₂, ◌∙◌}

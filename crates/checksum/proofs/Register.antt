@@ -1,5 +1,5 @@
 -- The register of specs/Checksum in `paper` and that of specs/Register are one, at any width and generator; then the FCS and the hash from its number.
---   number_of-feed, number_of-feeds    one bit and many bits of the message
+--   number_of-feed, number_of-feeds  one bit and many bits of the message
 --   run-feeds, crc32-run             the bytes of a message; those of 802.3
 --   length-feeds, crc32-length       the register keeps its length; that of 802.3 has 32 bits
 --   fcs_register, hash_register      the FCS and the hash from the register's number

@@ -1,6 +1,6 @@
 -- The test that every call but reset makes first. Paper 01, Refusal numbers: "Order: 14, 15 (ranges), then …".
 --   entry_of s len         what the test answers, for a state and the number of words lent
---   Entered s m           what a state and a lent memory that passed it keep to
+--   Entered s m            what a state and a lent memory that passed it keep to
 -- Assumes nothing.
 use Rattle.std.specs.Prelude.{if◌then◌else◌, ◌≡◌, true, not, List, ℕ, eqb, length}
 use Rattle.paper.specs.declared.State.{State}

@@ -21,13 +21,13 @@ use Rattle.paper.specs.Status.{look}
 use Rattle.paper.specs.Arrivals.{data_words}
 use Rattle.paper.specs.Sending.{head_of}
 use Rattle.paper.specs.Calls.{Call, Reset, MacWrite, MacRead, SetSplit, Split, RxFifoInf, TxFifoInf, RxDrop, DumpTxData, DumpTxStatus, DumpRx, Arrive, RxDataRead, RxStatusPop, RxStatusPeek, TxWord, Send, TxStatusPop, TxStatusPeek}
-use Rattle.paper.specs.Acts.{Act, oldest, sends, send, set_split, arrive, tx_word}
+use Rattle.paper.specs.Acts.{oldest, sends, send, set_split, arrive, tx_word}
 use Rattle.paper.specs.Machine.{World, waits, levels, decide, answer}
 use Rattle.paper.specs.Ledger.{Ledger, all_words, put, taken}
 use Rattle.paper.specs.Twins.{blank_word, source}
 use Rattle.paper.proofs.Kept.{control_of, Kept}
 use Rattle.paper.proofs.KeptRange.{kept_answer}
-use Rattle.paper.proofs.Alike.{bare, Alike, shared, bare_control, bare_taken, bare_length, bare_txstatus, bare_rxstatus, if_alike}
+use Rattle.paper.proofs.Alike.{bare, Alike, shared, bare_control, bare_taken, bare_length, bare_txstatus, bare_rxstatus}
 use Rattle.paper.proofs.AlikeWords.{word_alike}
 use Rattle.paper.proofs.AlikeHeads.{due, due_bare, head_kept, sends_alike}
 

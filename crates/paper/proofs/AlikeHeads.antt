@@ -10,16 +10,15 @@ use mathlib.Core.List.{List, [], ◌∷◌, map}
 use Prim.Native.Nat.{ℕ, ◌-◌}
 use lib.ListN.{length, length-drop}
 use Rattle.paper.specs.declared.Control.{Control}
-use Rattle.paper.specs.declared.Answer.TheVariants.{Value}
 use Rattle.paper.specs.Sending.{Buffer, Found, head_of, sent_bytes}
-use Rattle.paper.specs.Acts.{Act, sends}
+use Rattle.paper.specs.Acts.{sends}
 use Rattle.paper.specs.Machine.{World, waits}
 use Rattle.paper.specs.Ledger.{Whole, Ledger, next_b}
 use Rattle.paper.proofs.Counts.{frame_length, head_fits}
 use Rattle.paper.proofs.Kept.{Kept}
 use Rattle.paper.proofs.Packets.{buffer_of}
 use Rattle.paper.proofs.Unsent.{unsent, head_never_none}
-use Rattle.paper.proofs.Alike.{bare, if_alike}
+use Rattle.paper.proofs.Alike.{bare}
 use Rattle.paper.proofs.AlikeNotes.{next_bare}
 
 -- the first B of the packet to be sent next

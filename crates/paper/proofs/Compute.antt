@@ -1,6 +1,5 @@
 -- Opening the definitions for a theorem that is computed: a proof that says `unfolding everything` sees through all that is shut in specs/.
 -- Assumes nothing.
-use Rattle.std.specs.Prelude.{if◌then◌else◌}
 use Rattle.paper.specs.Words.{gathered, series, bytes_of, same}
 use Rattle.paper.specs.Memory.{waiting, put_all, ring_after, memory_after, waiting_after}
 use Rattle.paper.specs.Registers.{settings, read_register, write_register, good_registers, may_resize}

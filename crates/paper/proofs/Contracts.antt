@@ -1,6 +1,6 @@
 -- What a call's contract comes to: laws that the code cites in place of the text of `step`.
 --   world s m             a state and a lent memory
---   with_control k s       the state s with another control state
+--   with_control k s      the state s with another control state
 --   told_short, told_lost a call whose memory is not 4,096 words; a call whose state is out of range
 --   told_act              a call that does the act a
 --   told_still            such an act that changes nothing
@@ -8,7 +8,6 @@
 --   levels_are            the words waiting, as numbers, are the rings' counts
 --   none_waits, oldest_waits    a FIFO with no word, and one with its oldest word
 -- Assumes nothing.
-use Rattle.std.specs.Prelude.{if◌then◌else◌}
 use mathlib.Core.Path.{◌≡◌, refl, ap, ◌∙◌}
 use mathlib.Core.Bool.{true, false}
 use mathlib.Core.List.{List, [], ◌∷◌}

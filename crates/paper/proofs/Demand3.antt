@@ -16,7 +16,7 @@ use Rattle.paper.specs.declared.Answer.TheVariants.{Value, Refused}
 use Rattle.paper.specs.Memory.{Four}
 use Rattle.paper.specs.Status.{Look, look}
 use Rattle.paper.specs.Arrivals.{data_words}
-use Rattle.paper.specs.Transmission.{Turn, takes_expected, takes_payload, port_takes}
+use Rattle.paper.specs.Transmission.{takes_expected, takes_payload, port_takes}
 use Rattle.paper.specs.Calls.{Call, Arrive, RxDataRead, TxWord}
 use Rattle.paper.specs.Acts.{arrive}
 use Rattle.paper.specs.Machine.{World, decide, waits, levels, fresh, answer}
@@ -27,7 +27,7 @@ use Rattle.paper.proofs.Kept.{port_of, control_of, Kept, kept_fresh}
 use Rattle.paper.proofs.KeptRange.{kept_answer}
 use Rattle.paper.proofs.ArrivalLines.{arrives_answer}
 use Rattle.paper.proofs.Steps.{kept_step}
-use Rattle.paper.proofs.Alike.{bare, Alike, if_alike}
+use Rattle.paper.proofs.Alike.{bare, Alike}
 use Rattle.paper.proofs.AlikeNotes.{note_alike, payload_note, content_note}
 use Rattle.paper.proofs.AlikeCalls.{Told, equal, word, told}
 

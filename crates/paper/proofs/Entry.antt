@@ -1,6 +1,6 @@
 -- What it means that a state is in range. Paper 01, Refusal numbers, 15.
 --   Ready s               each number of the state s in its range, by name
---   ready, in_range_lem       a state is in range exactly when it is ready
+--   ready, in_range_lem   a state is in range exactly when it is ready
 --   fresh_in_range        the fresh state is in range
 -- Assumes nothing.
 use mathlib.Core.Path.{◌≡◌, refl}

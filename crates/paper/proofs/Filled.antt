@@ -1,7 +1,6 @@
 -- One payload word written to a port: the buffer goes on, or is full, and then the packet goes on or is whole.
 --   payload_taken         what was written after a payload word is what the port shows after it
 -- Assumes nothing.
-use Rattle.std.specs.Prelude.{if◌then◌else◌}
 use mathlib.Core.Path.{◌≡◌, refl}
 use mathlib.Core.Bool.{Bool, true, false}
 use mathlib.Core.List.{List, [], ◌∷◌, ◌++◌, append-nil}

@@ -3,7 +3,6 @@
 --   in_range_act          in range, with 4,096 words lent, a call does what is decided
 --   keeps_ranges
 -- Assumes nothing.
-use Rattle.std.specs.Prelude.{if◌then◌else◌}
 use mathlib.Core.Path.{◌≡◌, refl, ap}
 use mathlib.Core.Bool.{true, and-false}
 use mathlib.Core.List.{List, [], ◌∷◌}

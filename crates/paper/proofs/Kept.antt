@@ -4,7 +4,7 @@
 --   Kept l w                                the world w is as the ledger l says, FIFO by FIFO
 --   kept_count                              as many words wait as the ledger says
 --   Moves, kept_apply, kept_anew            an act that moves the ledger and the world alike keeps it
---   kept_restarted, kept_fresh                  a reset, and the fresh state, give the world of the ledger that has just begun
+--   kept_restarted, kept_fresh              a reset, and the fresh state, give the world of the ledger that has just begun
 -- Assumes nothing.
 use mathlib.Core.Path.{◌≡◌, refl, sym, ap, ◌∙◌}
 use mathlib.Core.Bool.{Bool, true, false}

@@ -3,7 +3,7 @@
 --   kept_rx_data_read, kept_rx_status_pop, kept_rx_status_peek, kept_tx_status_pop, kept_tx_status_peek     the words read
 -- The restarts are in KeptRestarts, the arrival is in KeptArrive.
 -- Assumes nothing.
-use Rattle.std.specs.Prelude.{if◌then◌else◌, not}
+use Rattle.std.specs.Prelude.{not}
 use mathlib.Core.Path.{◌≡◌, refl}
 use mathlib.Core.Bool.{true}
 use Prim.Native.Nat.{ℕ}

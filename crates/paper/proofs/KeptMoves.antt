@@ -2,7 +2,7 @@
 --   KeptBy c l w          after the call c in the world w, the world is as the ledger says that has noted it
 --   kept_by               it is enough to show it of the act that is decided, KeptUnder c l w a
 --   kept_still, kept_refused, kept_unless    an act that changes nothing; a refusal; a refusal where a test holds
---   kept_beside, kept_registers              an act that leaves the packets; one that changes registers alone
+--   kept_beside, kept_registers    an act that leaves the packets; one that changes registers alone
 --   kept_oldest           the oldest word of a FIFO is read, and perhaps taken
 -- Assumes nothing.
 use Rattle.std.specs.Prelude.{if◌then◌else◌}

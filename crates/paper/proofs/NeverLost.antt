@@ -1,6 +1,6 @@
 -- No call of a run is refused with 14 or 15. Paper 01, Refusal numbers.
 --   is_entry a             the answer is refusal 14 or 15
---   never_entry           in a world as a ledger says no call has such an answer
+--   never_entry            in a world as a ledger says no call has such an answer
 -- Assumes nothing.
 use native.Mathlib.Omega.{arith}
 use Rattle.std.specs.Prelude.{if◌then◌else◌, ◌&&◌, not, ltb}

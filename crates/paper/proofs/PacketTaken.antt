@@ -1,6 +1,6 @@
 -- One packet's words written in any world in range, reached or not, that expects an A with no packet open and has room for what is stored.
 --   Taken whole ws stored w    after the words ws: all answered 0, one more whole packet, what is stored laid behind what waited, the world in range
---   packet_taken          so it is with the words of a good packet
+--   packet_taken               so it is with the words of a good packet
 -- Assumes nothing.
 use mathlib.Core.Path.{◌≡◌, refl, ap, ◌∙◌}
 use mathlib.Core.Bool.{true, false}

@@ -1,5 +1,5 @@
 -- A whole packet as it lies in TX data: it is read back as the host wrote it.
---   buffer_of x            a written buffer as it lies in TX data
+--   buffer_of x           a written buffer as it lies in TX data
 --   kept_length           its payload is as long as its A says
 --   bytes_of-drop, bytes_of-take, take_within, kept_bytes    the bytes of a buffer are in the words stored
 --   head_of_laid          reading back finds the packet, whatever lies behind it

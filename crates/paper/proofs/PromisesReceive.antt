@@ -1,5 +1,5 @@
 -- What a world that is as its ledger says promises of levels, reads and arrivals: the facts of specs/Promises, world by world.
---   levels_of_lem             levels, RX_DROP and n are what the ledger implies
+--   levels_of_lem         levels, RX_DROP and n are what the ledger implies
 --   reads_of              reads, pops and peeks answer the ledger's words, in order
 --   whole_or_nothing_at   an arrival puts its data words and one status, or nothing
 --   dropped_exactly_at    Dropped is answered exactly when a frame is due and there is no room

@@ -5,7 +5,7 @@
 --   Sound w               the memory is as long as it has to be, n is 2 to 14, and each ring is in range
 --   apply-waits, apply-waits_anew    the words waiting after an act: each FIFO's own change; none after a restart of all
 --   apply_sound, apply_sound_anew    the world after an act is in range
---   apply-unchanged, apply_nothing   an act with no change leaves the memory; with the control state it leaves the world
+--   apply-unchanged, apply_nothing    an act with no change leaves the memory; with the control state it leaves the world
 -- Assumes nothing.
 use mathlib.Core.Path.{◌≡◌, refl, ◌∙◌, ap}
 use mathlib.Core.Logic.{◌≢◌}

@@ -4,7 +4,7 @@
 --   frame64, frame65      whole frames for the station, V 0800h, with a good FCS (zlib's crc32, first byte lowest)
 --   seen len dest v       the look of a frame with a good FCS and no flags
 --   filled                a lent memory in which old words show
---   receives, sends_on     worlds with the RX or the TX numbers given
+--   receives, sends_on    worlds with the RX or the TX numbers given
 --   asked w calls         the answers to calls in a world
 --   posted maccr l        what an arrival does at the station with empty receive FIFOs: the answer, and the status put
 -- Assumes nothing.

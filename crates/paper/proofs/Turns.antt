@@ -1,6 +1,6 @@
 -- One word written to a port that is as what was written so far implies: what the turn does to the port, to what was written and to TX data.
---   laid_by x              the words put into TX data since its restart, by what was written
---   wrote_after w a x      what was written, after the word w was answered a
+--   laid_by x             the words put into TX data since its restart, by what was written
+--   wrote_after w a x     what was written, after the word w was answered a
 --   GoodWrote x           the packets and the packet being written are ones that a port accepts
 --   Lays, Turned          what a change puts behind the words laid; what a turn keeps to
 --   turned                every turn keeps to it

@@ -1,6 +1,6 @@
 -- The packets that are whole and not yet sent, as they wait in TX data.
 --   unsent l              those packets, by the ledger
---   laid_all-split         packets lie one behind the other
+--   laid_all-split        packets lie one behind the other
 --   waiting_packets       the words waiting in TX data are theirs, and those of what is being written
 --   next_good, next_counts, next_taken, next_waits    the oldest of them: it is good, one more may be sent, its words are next and wait
 --   head_never_none       it is the head packet

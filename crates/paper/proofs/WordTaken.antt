@@ -1,9 +1,8 @@
 -- One accepted word written in any world in range, reached or not, that has room for what is stored.
 --   laid_behind            the words waiting, with more behind those of TX data
---   Able w e whole        the world w is in range, and its port expects e, with no error
+--   Able w e whole         the world w is in range, and its port expects e, with no error
 --   word_answer, word_control, word_waits, word_able    the answer, the control state and the words waiting after it; the world after it is in range
 -- Assumes nothing.
-use Rattle.std.specs.Prelude.{if◌then◌else◌}
 use mathlib.Core.Path.{◌≡◌, refl, sym, ap, ◌∙◌}
 use mathlib.Core.Bool.{true}
 use mathlib.Core.List.{List, [], ◌∷◌, ◌++◌, append-nil}

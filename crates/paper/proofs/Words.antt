@@ -1,7 +1,7 @@
 -- The laws of the vocabulary: a series, the bytes of words, and the test that two lists are equal.
 --   series-length, series-append, series-drop, series-get_or    a series' length, its two parts, what a drop leaves, its elements
 --   series_agree, series_lists    two series are equal where their values are; a series that reads a list's elements is the list
---   bytes_of-length                four bytes a word
+--   bytes_of-length               four bytes a word
 --   same_refl, same_true          the test `same` is equality
 -- Assumes nothing.
 use mathlib.Core.Path.{◌≡◌, refl, ap}

@@ -1,5 +1,5 @@
 -- Words that a port accepts one after the other, up to the one that makes a packet whole.
---   stored_from, kept_all  the payload words that are stored, word by word
+--   stored_from, kept_all    the payload words that are stored, word by word
 --   Word                  one word is accepted: thrown away, or laid where a word is free
 --   Writes                words that are all accepted, of which the last makes a packet whole
 --   word_a .. word_last   A, B and payload words

@@ -2,7 +2,7 @@
 --   Act                   the control state after a call, a change for each FIFO, the frame sent ([] for none), the answer
 --   unchanged, restarted  the same change for all four FIFOs
 --   does, refuses         an act that sends nothing and answers a value; one that refuses and changes nothing
---   mac_write .. send      the act of each call that has more than one case; levels are the words waiting in each FIFO
+--   mac_write .. send     the act of each call that has more than one case; levels are the words waiting in each FIFO
 -- Assumes nothing.
 use Rattle.std.specs.Prelude.{if◌then◌else◌, not, List, [], ◌∷◌, ℕ, ◌-◌, ltb, leb, eqb, length}
 use Rattle.paper.specs.declared.Registers.{Registers}

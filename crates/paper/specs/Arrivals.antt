@@ -1,9 +1,9 @@
 -- An arriving frame. Paper 01, An arriving frame: the seven lines in their order, room, and the data words.
 --   words_for len          data words that len bytes take; 0 for none
 --   data_words frame       the frame's data words
---   room                  whether these and one status are free
+--   room                   whether these and one status are free
 --   refuses_length, discards    the tests of lines 1 and 4
---   arrival               the first line that applies
+--   arrival                the first line that applies
 --   arrival_answer         01's refusal number or value for each answer to an arrival
 -- Differs from 000: full means full (DECISIONS 12).
 -- Assumes nothing.

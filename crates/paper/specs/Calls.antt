@@ -1,6 +1,6 @@
 -- The public calls with their inputs. Paper 01 says what each does.
 --   Call                  a call; words, values and bytes are numbers, a frame and an out buffer lists of bytes
---   is_reset c             the call is reset, the one that needs no range
+--   is_reset c            the call is reset, the one that needs no range
 --   lends c               the out buffer that a call lends, as it is before the call; [] for a call that lends none
 -- Assumes nothing.
 use Rattle.std.specs.Prelude.{Bool, true, false, List, [], ℕ}

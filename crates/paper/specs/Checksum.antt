@@ -4,10 +4,10 @@
 --   plus p q              the sum of two polynomials
 --   feed g r b            the register r after one more bit b of the message
 --   wire s                the bits of the bytes s in the order of the wire
---   number_of bs           the number whose bits, lowest first, are bs
+--   number_of bs          the number whose bits, lowest first, are bs
 --   crc32 s               the register after the bytes s
---   fcs s, with_fcs s      the FCS of s, its first byte on the wire lowest; s followed by it
---   fcs_fits s             the last four bytes of s are the FCS of those before; fewer than four bytes never fit
+--   fcs s, with_fcs s     the FCS of s, its first byte on the wire lowest; s followed by it
+--   fcs_fits s            the last four bytes of s are the FCS of those before; fewer than four bytes never fit
 --   hash s                the register's top six bits as a number, 0 to 63
 -- Assumes nothing.
 use Rattle.std.specs.Prelude.{if◌then◌else◌, Bool, true, false, not, ◌&&◌, List, [], ◌∷◌, ◌++◌, map, reverse, ℕ, zero, suc, ◌+◌, ◌-◌, ◌*◌, ◌/◌, ◌%◌, leb, eqb, length, take, replicate}

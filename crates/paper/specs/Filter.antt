@@ -1,10 +1,10 @@
 -- The receive filter. Paper 01, An arriving frame, "Filter".
 -- A frame's address is given by its first bytes, head; the destination is the first six.
 --   destination head      the six destination bytes
---   is_broadcast, is_group  what kind of address it is; a broadcast is a group address too
+--   is_broadcast, is_group    what kind of address it is; a broadcast is a group address too
 --   ours r                our address in wire order
---   in_hash r d            the hash of d finds a 1 in HASHH or HASHL
---   passes_rule rule r d   an address d under one rule of the table
+--   in_hash r d           the hash of d finds a 1 in HASHH or HASHL
+--   passes_rule rule r d  an address d under one rule of the table
 --   passes r head         whether the filter says yes; no for a setting that is undefined, which no register holds
 -- Differs from 000: broadcast is judged first, in every mode (ours).
 -- Assumes nothing.

@@ -7,9 +7,9 @@
 --   begun                 the ledger of the fresh state
 --   note c a l            the ledger after the call c was answered a
 --   noted cs as l         the ledger after the calls cs were answered as
---   all_words frames       the data words of frames, one after the other
---   packet_bytes p         the bytes of a packet as the host wrote them
---   laid p, laid_so_far t   the words of a packet that TX data keeps
+--   all_words frames      the data words of frames, one after the other
+--   packet_bytes p        the bytes of a packet as the host wrote them
+--   laid p, laid_so_far t    the words of a packet that TX data keeps
 --   put f l, taken f l    the words put into FIFO f since its restart, oldest first, and how many of them were taken since
 -- Assumes nothing.
 use Rattle.std.specs.Prelude.{if◌then◌else◌, Bool, true, false, not, ◌&&◌, List, [], ◌∷◌, ◌++◌, map, ℕ, ◌+◌, ltb, leb, eqb, length, take, drop}

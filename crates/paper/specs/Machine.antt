@@ -7,7 +7,7 @@
 --   step c w              a call: answer, world and out buffer after it
 --   fresh m               the fresh state over any memory m
 --   answer, after         the answer of one call and the world after it
---   answers, world_after   those of a list of calls
+--   answers, world_after  those of a list of calls
 -- Assumes nothing.
 use Rattle.std.specs.Prelude.{if◌then◌else◌, not, ◌&&◌, List, [], ◌∷◌, ℕ, length}
 use Rattle.paper.specs.declared.Control.{Control}

@@ -1,11 +1,11 @@
 -- The lent memory and its four FIFOs. Paper 01, Memory.
---   words_lent             the words that the caller lends
+--   words_lent            the words that the caller lends
 --   Fifo                  which of the four
 --   size f n, base f n    the words of a FIFO, and its first word in memory, for TX_FIF_SZ n
 --   Four A, of q f        one A for each FIFO, and that of FIFO f
 --   place b s k           the word of memory for word k of a ring of s words from word b on
 --   waiting b s r m       the words waiting in a ring of s words from word b on, oldest first
---   put_all b s k ws m     the memory after the words ws are put as words number k, k + 1 and so on
+--   put_all b s k ws m    the memory after the words ws are put as words number k, k + 1 and so on
 --   Change                what a call does to a FIFO: keeps it, puts words, takes the k oldest, or restarts it
 --   ring_after, memory_after, waiting_after    the ring, the memory and the words waiting after a change
 -- A ring's `at` is the place of its oldest word, so the next word put goes to place at + count, mod size (DECISIONS 18).

@@ -2,7 +2,7 @@
 --   Begun, Fine           a buffer that the port accepts after sizes bytes of a packet whose first B is b; and with all its payload words
 --   Ended                 buffers of which the last is Last, and no other
 --   GoodWhole p           a packet that keeps the rules: p in its range, and its buffers as the port accepts them
---   host_writes p          the words that the host writes for it
+--   host_writes p         the words that the host writes for it
 -- Assumes nothing.
 use Rattle.std.specs.Prelude.{◌≡◌, Bool, true, false, List, [], ◌∷◌, ◌++◌, ℕ, ◌+◌, length}
 use Rattle.paper.specs.Transmission.{buffer_size, is_last, host_words, good_a, good_length, sizes_agree}

@@ -1,8 +1,8 @@
 -- The refusals: their numbers, what an answer says, and the ranges of 15. Paper 01, Refusal numbers.
 --   number r              01's number of a refusal, 1 to 15
 --   said a                the refusal number and the value of an answer; 0 where 01 names none
---   lent_well m            the lent memory has 4,096 words
---   in_range s             each number of the state is in its range
+--   lent_well m           the lent memory has 4,096 words
+--   in_range s            each number of the state is in its range
 -- The order of refusals is that of the tests: 14 and 15 in `act` of Machine, the others in each call's rule in Acts, in `arrival` and in `port_takes`.
 -- Combinations that no port reaches, such as payload words left with no B known, hold what no port accepts, and are out of range (DECISIONS 4).
 -- Assumes nothing.

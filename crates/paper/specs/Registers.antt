@@ -1,16 +1,16 @@
 -- The registers. Paper 01, Registers, and of An arriving frame the table of settings.
---   RXALL .. RXEN, carried            the carried bits of MAC_CR, by number
+--   RXALL .. RXEN, carried              the carried bits of MAC_CR, by number
 --   settings, setting_number, setting_of    the 32 settings, the number of a MAC_CR's setting, and that setting
---   good_maccr, good_addrh, good_n       what a write accepts
+--   good_maccr, good_addrh, good_n      what a write accepts
 --   is_register k, good_value k v       there is a MAC register k; v may be written to it
 --   read_register, write_register       MAC register k of r; r after the write. Used for k from 1 to 5; for another k 0 and no change
---   good_registers                     each register holds what a write accepts
---   rx_fifo_inf, tx_fifo_inf              the level words, from numbers of words and statuses
---   one_more                           RX_DROP after one more dropped frame
+--   good_registers                      each register holds what a write accepts
+--   rx_fifo_inf, tx_fifo_inf            the level words, from numbers of words and statuses
+--   one_more                            RX_DROP after one more dropped frame
 --   with_n, with_drops                  the registers with another n, or another RX_DROP
---   is_defined                         whether a setting is defined
+--   is_defined                          whether a setting is defined
 --   is_closed, expects_first            no packet is open; the port expects an A with none open
---   is_idle p                          no transmit buffer or packet is open and no transmit error stands
+--   is_idle p                           no transmit buffer or packet is open and no transmit error stands
 --   may_resize, may_dump_tx_data, may_dump_rx    whether setting n, or a dump, is allowed now
 -- Differs from 000: MAC_CR starts at 0 (ours) and no bit but these is carried (DECISIONS 21).
 -- Assumes nothing.

@@ -1,11 +1,11 @@
 -- Runs: the fresh state over any lent memory, a list of calls, and the ledger of the calls and their answers.
 --   reached cs m          the world after the calls cs
---   ledger_of cs m         the ledger of those calls and their answers
+--   ledger_of cs m        the ledger of those calls and their answers
 --   Lent m                m has 4,096 words
 --   Reading c             the call is an arrival, a read, a pop or a peek
---   next_of q              the answer of a read: 11 where nothing waits, else the oldest word
+--   next_of q             the answer of a read: 11 where nothing waits, else the oldest word
 --   Due r l               lines 1 to 5 do not answer: the frame is due to be kept
---   lacks_room             line 6: too few data words free, or no status; by how many wait
+--   lacks_room            line 6: too few data words free, or no status; by how many wait
 --   sending               the answer to sending, by the packets that are whole and not sent
 -- Assumes nothing.
 use Rattle.std.specs.Prelude.{if◌then◌else◌, ◌≡◌, Bool, true, false, not, ◌||◌, List, [], ◌∷◌, ℕ, ◌-◌, ltb, leb, length}

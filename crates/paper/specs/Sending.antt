@@ -1,10 +1,10 @@
 -- Sending. Paper 01, Words for transmission, its last paragraph, and of Refusal numbers "the head packet".
 --   Buffer                one buffer as it lies in TX data: its A and its payload words
 --   Head                  no packet that the port would store; or its first B and its buffers
---   head_of q              the head packet, read back from the waiting words q
---   sent_bytes buffers     the packet's bytes
+--   head_of q             the head packet, read back from the waiting words q
+--   sent_bytes buffers    the packet's bytes
 --   freed buffers         the words of TX data that it takes
---   frame_of b bytes       the frame sent: padding and FCS by the bits of the first B
+--   frame_of b bytes      the frame sent: padding and FCS by the bits of the first B
 --   good_outcome, tx_status the outcome's bits; the TX status
 --   shortest_out           the least bytes of an out buffer
 --   out_after frame out    the out buffer after a frame is sent

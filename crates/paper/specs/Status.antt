@@ -1,7 +1,7 @@
 -- What is judged of an arriving frame, and its RX status. Paper 01, An arriving frame, "RX status".
 --   Look                  all that a rule may see of a frame: length, first fourteen bytes, wire flags, checksum verdict
 --   look frame flags      the look of a frame
---   length_or_type head     V, the number in the two bytes that begin at offset 12
+--   length_or_type head   V, the number in the two bytes that begin at offset 12
 --   longest               the longest frame of 802.3, 1,518 bytes; status takes it as an argument
 --   kept l                the bytes of a frame that are stored: all of them
 --   status limit miss l   the status word, where miss says that the filter said no

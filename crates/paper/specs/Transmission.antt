@@ -1,14 +1,14 @@
 -- Words written to the transmit port. Paper 01, Words for transmission.
 --   alignment, offset, is_first, is_last, buffer_size    the fields of A
---   tag, no_crc, no_padding, packet_length               the fields of B
---   host_words, front_words, stored_words, behind_words   payload words written, thrown away in front, stored, thrown away behind
---   good_a is_open a        an A that is not bad, with a packet open or not
+--   tag, no_crc, no_padding, packet_length    the fields of B
+--   host_words, front_words, stored_words, behind_words    payload words written, thrown away in front, stored, thrown away behind
+--   good_a is_open a       an A that is not bad, with a packet open or not
 --   good_length b          p of a first B is in its range
---   repeats b later       a later B repeats tag and p
+--   repeats b later        a later B repeats tag and p
 --   sizes_agree a b sizes  the buffer of a keeps to p after sizes bytes, and reaches it at Last
 --   is_open, opened        whether a packet is open; the packet after an accepted A
 --   is_stored a i          payload word i of a buffer, counting from 0, is stored
---   Turn                  what a word does: the port after it, what becomes of TX data, the answer
+--   Turn                   what a word does: the port after it, what becomes of TX data, the answer
 --   port_takes free p w    the turn of the word w, where free says whether TX data has a free word
 -- Differs from 000: middle buffers of 1 to 3 bytes pass, and no packet is too finely split (DECISIONS 12). A transmit error stands until TX data is dumped or
 -- the model is reset. "Other bits are stored and mean nothing."

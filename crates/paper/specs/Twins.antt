@@ -4,10 +4,10 @@
 --   Unheard a             an arrival that a run ignores, discards or filters
 --   Twins w w' cs cs'     two runs side by side, from the worlds w and w'
 --   blank c a             the answer a to the call c, a receive data word left out
---   frame_at k frames      the bytes of the frame that data word k, counted through the frames, is of; none past their end
+--   frame_at k frames     the bytes of the frame that data word k, counted through the frames, is of; none past their end
 --   Agree                 what the host sees of one call in each run
 --   Agrees                what it sees of the two runs
---   host_log cs w          the support log: the answers to the host's calls, receive data words left out
+--   host_log cs w         the support log: the answers to the host's calls, receive data words left out
 -- Assumes nothing.
 use Rattle.std.specs.Prelude.{if◌then◌else◌, ◌≡◌, true, List, [], ◌∷◌, ◌++◌, ℕ, ◌-◌, ltb, length, take}
 use Rattle.paper.specs.declared.Port.{Port}

@@ -1,14 +1,13 @@
--- The vocabulary: a choice, the bits of a word, words and bytes, a series. Paper 01 uses these; of them it says only how a word holds its bytes.
---   if b then x else y    x where b holds, else y
+-- The vocabulary: the bits of a word, words and bytes, a series; a choice `if b then x else y` is std's. Paper 01 uses these; of them it says only how a word holds its bytes.
 --   digit i v             bit i of v, as 0 or 1; 0 above v's highest bit
 --   bit i v               bit i of v is set
 --   bits high low v       the number in bits high to low of v
 --   mark i b              the word whose bit i is b and whose other bits are 0
 --   gathered is v         the bits of v that the list is numbers, each at its place
---   only_bits is v         no other bit of v is set
+--   only_bits is v        no other bit of v is set
 --   series f k n          f k, f (k + 1) and so on, n values
---   word_at s i            the word of the four bytes from byte i of s on; past the end of s bytes are 0
---   bytes_of ws            the bytes of words, four each
+--   word_at s i           the word of the four bytes from byte i of s on; past the end of s bytes are 0
+--   bytes_of ws           the bytes of words, four each
 --   same s t              the lists s and t are equal
 -- Assumes nothing.
 use Rattle.std.specs.Prelude.{if◌then◌else◌, Bool, true, false, ◌&&◌, List, [], ◌∷◌, ℕ, zero, suc, ◌+◌, ◌-◌, ◌*◌, ◌/◌, ◌%◌, ◌^◌, eqb, get_or}

@@ -5,7 +5,6 @@
 --   inside, at_in_part    where the part of a FIFO and its oldest word lie
 --   popped, peeked        the contracts of those calls, from what the functions of this crate ensure
 -- Assumes nothing.
-use Rattle.std.specs.Prelude.{if◌then◌else◌}
 use mathlib.Core.Path.{◌≡◌, refl, sym, ap, ◌∙◌}
 use mathlib.Core.Bool.{false}
 use mathlib.Core.List.{List, []}

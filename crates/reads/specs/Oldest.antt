@@ -1,7 +1,7 @@
 -- A read of a FIFO, by its ring alone. Paper 01, Refusal numbers, 11: "nothing to read, peek or send".
 --   oldest_of count w      the answer where count words wait and w is at the place of the oldest
 --   rest_of size r         the ring without its oldest word; the ring itself where none waits
---   Rest size r q         q is that ring, and its place is in the ring's range
+--   Rest size r q          q is that ring, and its place is in the ring's range
 -- Assumes nothing.
 use Rattle.std.specs.Prelude.{if◌then◌else◌, ◌≡◌, ℕ, ◌<◌, eqb}
 use Rattle.paper.specs.declared.Ring.{Ring}

@@ -1,6 +1,6 @@
 -- An RX status by its marks, and V by the frame's part from offset 12 on.
 --   status_marks          the status of a look is that of its marks
---   type_part_lem             V is the number in the first two bytes of that part
+--   type_part_lem         V is the number in the first two bytes of that part
 -- Assumes nothing.
 use Rattle.std.proofs.Common.{◌≡◌, ℕ, ◌+◌, ◌-◌, ◌*◌, ◌^◌, not, List, length, get_or, take, drop, refl, arith, length-drop, get_or-drop, take_all, get_or-take}
 use Rattle.paper.specs.declared.Registers.{Registers}

@@ -3,7 +3,7 @@
 --   arrived_told          the contract of an arrival: the line that answers, and the world after what that line does
 --   still_leaves, dropped_leaves, stored_leaves    what each line does
 -- Assumes nothing.
-use Rattle.std.proofs.Common.{◌≡◌, ℕ, ◌-◌, ◌<◌, ◌≤◌, Bool, true, false, not, ◌&&◌, ◌||◌, eqb, ltb, List, [], ◌∷◌, take, sym, refl, ap, ◌∙◌, arith, ltb-false}
+use Rattle.std.proofs.Common.{◌≡◌, ℕ, ◌<◌, ◌≤◌, Bool, true, false, not, ◌&&◌, eqb, ltb, List, [], ◌∷◌, take, sym, refl, ap, ◌∙◌, arith, ltb-false}
 use borrow.Author.Tests.{eqb-false}
 use Rattle.paper.specs.declared.Registers.{Registers}
 use Rattle.paper.specs.declared.Control.{Control}

@@ -1,9 +1,9 @@
 -- The judging of an arriving frame in the order of the code. Paper 01, An arriving frame.
 --   free_words s, free_statuses s    the free RX data words and RX statuses of a state
 --   judged                lines 4 to 7, for a frame that lines 1 to 3 let through
---   verdict_of             all seven lines, for a state
+--   verdict_of            all seven lines, for a state
 --   Sized, Fitting        a frame has the bytes that the filter and the status see; what is known of a frame that is Stored
---   arrived_at             the world after what the line that answers does
+--   arrived_at            the world after what the line that answers does
 --   Leaves w t m          the state t and the memory m are those of the world w
 --   dropped s             the state s after one more dropped frame
 -- Assumes nothing.

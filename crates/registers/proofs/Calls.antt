@@ -5,7 +5,6 @@
 --   write_no_register .. dumped-rx        each call and case
 --   reset_anew                            reset, on any state
 -- Assumes nothing.
-use Rattle.std.specs.Prelude.{if◌then◌else◌}
 use mathlib.Core.Path.{◌≡◌, refl, sym, ap, ◌∙◌}
 use mathlib.Core.Bool.{Bool, true, false, not}
 use mathlib.Core.List.{List, []}
@@ -16,7 +15,6 @@ use Rattle.paper.specs.declared.Registers.{Registers}
 use Rattle.paper.specs.declared.State.{State}
 use Rattle.paper.specs.declared.Refusal.{Refusal}
 use Rattle.paper.specs.declared.Refusal.TheVariants.{NoRegister, BadValue, NotNow}
-use Rattle.paper.specs.declared.Answer.{Answer}
 use Rattle.paper.specs.declared.Answer.TheVariants.{Value, Refused}
 use Rattle.paper.specs.declared.Reply.{Reply}
 use Rattle.paper.specs.Memory.{Four, words_lent, keeps, restarts, ring_after, memory_after}
@@ -24,7 +22,7 @@ use Rattle.paper.specs.Registers.{is_register, good_value, read_register, write_
 use Rattle.paper.specs.Fresh.{empty, fresh_port, fresh_control, fresh_state}
 use Rattle.paper.specs.Calls.{Call, Reset, MacWrite, MacRead, SetSplit, Split, RxFifoInf, TxFifoInf, RxDrop, DumpTxData, DumpTxStatus, DumpRx, lends}
 use Rattle.paper.specs.Acts.{unchanged, restarted, does, refuses, with_registers as with_the_registers, with_port}
-use Rattle.paper.specs.Machine.{waits, levels, decide, apply, act}
+use Rattle.paper.specs.Machine.{waits, decide, apply, act}
 use Rattle.paper.specs.Promises.{Told, told, told_of}
 use Rattle.paper.proofs.Contracts.{world, told_act, told_same, told_control, told_decided, levels_are}
 use Rattle.entry.specs.Entry.{Entered}

@@ -1,7 +1,7 @@
 -- A state with another part, and its levels, as the functions of this crate make them.
 --   levels_of s            the words waiting in each FIFO, as numbers
 --   with_registers r s     the state s with other registers
---   resized n s           the state s with another n and all FIFOs restarted
+--   resized n s            the state s with another n and all FIFOs restarted
 --   without_packets s      the state s with TX data restarted and the port as in the fresh state
 -- Assumes nothing.
 use Rattle.std.specs.Prelude.{ℕ}

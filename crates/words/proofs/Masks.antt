@@ -1,5 +1,5 @@
 -- Masks: a word and a mask give the bits that the mask's list numbers.
---   mask_of is       the mask of the bits that the list numbers
+--   mask_of is      the mask of the bits that the list numbers
 --   falls top is    the numbers are below top, each below the one before it
 --   mask_bound      such a mask is below 2^top
 --   and_bit         a mask's highest bit apart

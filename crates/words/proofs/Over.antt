@@ -6,7 +6,6 @@
 --   over_bytes      statuses over four bytes for each word, as the level words have them
 -- Places and widths are numerals where these are cited, so that the tests of them compute: `tt` proves each.
 -- Assumes nothing.
-use Rattle.std.specs.Prelude.{if◌then◌else◌}
 use mathlib.Core.Path.{◌≡◌, refl}
 use mathlib.Core.Bool.{Bool, true, false}
 use Prim.Native.Nat.{ℕ, ◌+◌, ◌*◌, ◌%◌, ◌^◌, ◌<◌}

@@ -3,7 +3,7 @@
 --   status_of len m        the RX status of a frame of len bytes with these marks; its terms stand in the order of paper's `status`,
 --                         so that the two unfold to the same
 --   outcome_error o        the error mark of a TX status, as `tx_status` of paper has it
---   TxLevels n statuses   the split and the number of TX statuses are in their ranges
+--   TxLevels n statuses    the split and the number of TX statuses are in their ranges
 -- Assumes nothing.
 use Rattle.std.specs.Prelude.{Bool, ◌||◌, ℕ, ◌+◌, ◌*◌, ◌^◌, ◌≤◌}
 use Rattle.paper.specs.Words.{bit, mark}

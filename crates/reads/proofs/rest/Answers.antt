@@ -1,5 +1,5 @@
 -- No word, and the ring without its oldest.
-use Rattle.std.proofs.Common.{arith, eq-eqb}
+use Rattle.std.proofs.Common.{arith}
 use native.Mathlib.Nat.{mod-lt}
 use borrow.Author.Tests.{ne_eqb}
 use Rattle.paper.specs.Memory.{ring_after}

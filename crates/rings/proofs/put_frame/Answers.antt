@@ -1,5 +1,4 @@
-use Rattle.std.proofs.Common.{◌≡◌, ◌*◌, arith}
-use Rattle.paper.specs.Words.{word_at}
+use Rattle.std.proofs.Common.{arith}
 use Rattle.rings.proofs.Puts.{words_left, words_done, going_first, going_on, going_done}
 use Rattle.rings.proofs.put_frame.Goals as goal
 

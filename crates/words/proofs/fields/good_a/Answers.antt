@@ -1,8 +1,8 @@
 -- First is set exactly where no packet is open; the test of an A goes by its three parts.
-use Rattle.std.proofs.Common.{◌≡◌, ℕ, Bool, true, false, refl, ap}
+use Rattle.std.proofs.Common.{◌≡◌, Bool, true, false, refl}
 use mathlib.Core.Bool.{beq}
 use Rattle.std.specs.Prelude.{not, if◌then◌else◌}
-use Rattle.paper.specs.Transmission.{alignment_field, buffer_size, is_first, good_a}
+use Rattle.paper.specs.Transmission.{is_first, good_a}
 use Rattle.words.proofs.fields.good_a.Goals as goal
 
 differs : (first opened : Bool) → not (beq first opened) ≡ (if opened then not first else first)
