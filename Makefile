@@ -1,7 +1,7 @@
 # make test: the gate (tools/gate).
 # make demo: proves and runs the demo, and prints what it writes. make rehearsal: the same for a rehearsal's takes and bad input (docs/REHEARSAL.md).
 # make expected: writes the lines that the rehearsal must print, as the second program gives them.
-# A program is proved and run by rt run, also where the processor is not the program's own, and must write its file stdout to the byte.
+# A program is proved and run by rt run, and must write its file stdout to the byte.
 .PHONY: test demo rehearsal expected
 
 test:

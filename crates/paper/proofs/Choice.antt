@@ -1,4 +1,4 @@
--- Laws of the choice `if b then x else y` and of tests joined by `&&` and `||`, for the proofs to cite.
+-- Laws of the choice, `cond b x y`, which `if b then x else y` is, and of tests joined by `&&` and `||`, for the proofs to cite.
 --   if_true, if_false, if_same    the choice where its test is known, or does not matter
 --   if_cases                      what holds of both branches holds of the choice
 --   and_left, and_right, and_three, and_four, and_both, or_neither    what a joined test says of its parts
@@ -6,26 +6,26 @@
 -- Assumes nothing.
 use Rattle.std.specs.Prelude.{if◌then◌else◌}
 use mathlib.Core.Path.{◌≡◌, refl}
-use mathlib.Core.Bool.{Bool, true, false, ◌&&◌, ◌||◌}
+use mathlib.Core.Bool.{Bool, true, false, cond, ◌&&◌, ◌||◌}
 use Prim.Native.Nat.{ℕ, ◌≤◌, ◌^◌}
 use native.Mathlib.Omega.{arith}
 use Rattle.paper.specs.Words.{mark}
 
 -- Where the test holds, the choice is its first branch.
-pub if_true : {A : Type 0} (x y : A) → (if true then x else y) ≡ x
+pub if_true {ℓ} : {A : Type ℓ} (x y : A) → cond true x y ≡ x
 if_true x y = refl
 
 -- Where the test fails, the choice is its second branch.
-pub if_false : {A : Type 0} (x y : A) → (if false then x else y) ≡ y
+pub if_false {ℓ} : {A : Type ℓ} (x y : A) → cond false x y ≡ y
 if_false x y = refl
 
 -- A choice between a thing and itself is that thing.
-pub if_same : {A : Type 0} (b : Bool) (x : A) → (if b then x else x) ≡ x
+pub if_same {ℓ} : {A : Type ℓ} (b : Bool) (x : A) → cond b x x ≡ x
 if_same true x = refl
 if_same false x = refl
 
 -- What holds of the first branch where the test holds, and of the second where it fails, holds of the choice.
-pub if_cases : {A : Type 0} (P : A → Type 0) (b : Bool) {x y : A} → (b ≡ true → P x) → (b ≡ false → P y) → P (if b then x else y)
+pub if_cases {ℓ} : {A : Type ℓ} (P : A → Type 0) (b : Bool) {x y : A} → (b ≡ true → P x) → (b ≡ false → P y) → P (cond b x y)
 if_cases P true f g = f refl
 if_cases P false f g = g refl
 

@@ -1,8 +1,8 @@
 -- Counts and bounds: how many words and bytes there are, and how large they can be. Paper 01, An arriving frame and Words for transmission.
 --   data_words-length, data_words_at, words_for_pos, words_for_bound, word_at_bound    the data words of a frame
---   buffer_size_pos, storedWords-.., hostWords-.., stored_within, counts_add       the words of a buffer, by its A
+--   buffer_size_pos, stored_words_.., host_words_.., stored_within, counts_add     the words of a buffer, by its A
 --   setting_number_bound, flags_bound, outcome_bound, maccr_bound                  words with few bits
---   status_bound, tx_status_bound, rx_inf_bound, tx_inf_bound, oneMore-..          words that a call answers
+--   status_bound, tx_status_bound, rx_inf_bound, tx_inf_bound, one_more_..         words that a call answers
 --   sent_length, frame_length, frame_fits                                          the length of the frame sent
 --   buffer_bytes-length, AllStored, HeadFits, head_fits                            the head packet: its bytes, its words, its first B
 -- Assumes nothing.

@@ -46,7 +46,10 @@ is_entry (Refused r) = leb 14 (number r)
 abbrev Plain : Answer → Type 0
 Plain a = is_entry a ≡ false
 
--- A choice between turns none of which is so answered.
+-- A choice between acts none of which is so answered.
+either : (b : Bool) (x y : Act) → Plain x.answer → Plain y.answer → Plain (if b then x else y).answer
+either b x y p q = if_cases (λ (a : Act). Plain a.answer) b (λ _. p) (λ _. q)
+
 turns : (b : Bool) (x y : Turn) → Plain x.answer → Plain y.answer → Plain (if b then x else y).answer
 turns b x y p q = if_cases (λ (t : Turn). Plain t.answer) b (λ _. p) (λ _. q)
 
