@@ -12,10 +12,11 @@ use Prim.Native.Nat.{ℕ, ◌+◌, ◌≤◌}
 use native.Mathlib.Omega.{arith}
 use lib.ListN.{length}
 use Rattle.paper.specs.declared.State.{State}
-use Rattle.paper.specs.Memory.{Fifo, size, base}
+use Rattle.paper.specs.declared.Fifo.{Fifo}
+use Rattle.paper.specs.Memory.{size, base}
 use Rattle.paper.specs.Refusals.{in_range}
 use Rattle.paper.proofs.Memory.{InRing, within}
-use Rattle.paper.proofs.Rings.{ring}
+use Rattle.paper.specs.Memory.{ring}
 use Rattle.paper.proofs.Entry.{ready}
 use Rattle.paper.proofs.Fifos.{each}
 use Rattle.rings.specs.Rings.{HasRoom, Waits}

@@ -5,7 +5,8 @@
 use Rattle.std.specs.Prelude.{ℕ}
 use Rattle.paper.specs.declared.Ring.{Ring}
 use Rattle.paper.specs.declared.State.{State}
-use Rattle.paper.specs.Memory.{Fifo, TxData, TxStatus, RxData, RxStatus}
+use Rattle.paper.specs.declared.Fifo.{Fifo}
+use Rattle.paper.specs.declared.Fifo.TheVariants.{TxData, TxStatus, RxData, RxStatus}
 
 abbrev pub split_of : State → ℕ
 split_of s = s.control.registers.n

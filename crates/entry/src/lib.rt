@@ -3,20 +3,20 @@
 //   port      what the transmit port holds
 #![tactic(auto)]
 
-ghost use Rattle.std.specs.Prelude.{◌≡◌, ◌≤◌};
+ghost use Rattle.std.specs.Prelude.{◌≡◌, ◌≤◌, true, MatchResult, Some, None, Err, Ok};
 ghost use Rattle.paper.specs.Refusals.{ring_in_range, rings_in_range, whole_in_range, in_range};
 ghost use Rattle.entry.specs.Entry.{entry_of};
 
-use paper::{Refusal, Ring, State};
+use paper::{Refusal, Reply, Ring, State};
 
 pub mod port;
 pub mod values;
 
-// What the test answers: the call may go on, or is refused so.
+// A state of which each number is in its range.
 #[derive(Clone, Copy)]
-pub enum Entry {
-    Clear,
-    Shut(Refusal),
+pub struct Sound {
+    pub state: State,
+    pub ghost range: { in_range state ≡ true },
 }
 
 // 01: "places below the FIFO's size, counts at most the size"
@@ -62,16 +62,27 @@ pub fn in_range(s: State) -> bool
 }
 
 // Whether a call may go on, with this state and a lent memory of len words: 14, then 15.
-pub fn enter(s: State, len: usize) -> Entry
-    ensures { result ≡ entry_of s len }
+pub fn enter(s: State, len: usize) -> Result<Sound, Refusal>
+    ensures { MatchResult result (λ x. (x.state ≡ s) × (entry_of s len ≡ None)) (λ k. entry_of s len ≡ Some k) }
 {
     let ranges = in_range(s);
     if len != 4096 {
-        return Entry::Shut(Refusal::MemoryLength);
+        return Err(Refusal::MemoryLength);
     }
-    if ranges {
-        Entry::Clear
-    } else {
-        Entry::Shut(Refusal::OutOfRange)
+    if !ranges {
+        return Err(Refusal::OutOfRange);
+    }
+    Ok(Sound { state: s })
+}
+
+// Makes a call that needs a sound state, with a lent memory of so many words; refused so where the test refuses.
+pub fn entered<T, F: FnOnce(Sound) -> Reply<T>>(s: State, words: usize, call: F) -> Reply<T>
+    requires { (x : Sound) → x.state ≡ s → entry_of s words ≡ None → F.pre call x }
+    ensures shut { (k : Refusal) → entry_of s words ≡ Some k → result ≡ record { answer = Err k; state = s } }
+    ensures clear { entry_of s words ≡ None → (x : Sound) × (x.state ≡ s) × F.post call x result }
+{
+    match enter(s, words) {
+        Err(k) => Reply::refused(k, s),
+        Ok(x) => call(x),
     }
 }

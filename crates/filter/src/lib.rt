@@ -2,7 +2,7 @@
 // least 14 bytes; the filter looks at the first six of them.
 #![tactic(auto)]
 
-ghost use Rattle.std.specs.Prelude.{if◌then◌else◌, ◌≡◌, ◌≤◌, ◌<◌, length, take, get_or};
+ghost use Rattle.std.specs.Prelude.{if◌then◌else◌, ◌≡◌, ◌≤◌, ◌<◌, length, take, get_or, None};
 ghost use Rattle.paper.specs.Words.{bit, same};
 ghost use Rattle.paper.specs.Registers.{settings, setting_of};
 ghost use Rattle.paper.specs.Filter.{
@@ -17,96 +17,96 @@ ghost use Rattle.paper.specs.Filter.{
 };
 ghost use Rattle.filter.specs.Address.{address_of};
 
-use paper::{Registers, Rule, Setting};
+use paper::{Registers, Rule, Rules, Setting};
 use words::bytes::word_at;
 use words::fields::{bit_is_set, setting_number};
 
 // By (MCPAS, PRMS, INVFILT, HO, HPFILT), MCPAS the highest: the rules, or undefined.
 pub const SETTINGS: [Setting; 32] = [
-    Setting::Defined {
+    Some(Rules {
         group: Rule::Equal,
         individual: Rule::Equal,
-    },
-    Setting::Defined {
+    }),
+    Some(Rules {
         group: Rule::Hash,
         individual: Rule::Equal,
-    },
-    Setting::Undefined,
-    Setting::Defined {
+    }),
+    None,
+    Some(Rules {
         group: Rule::Hash,
         individual: Rule::Hash,
-    },
-    Setting::Defined {
+    }),
+    Some(Rules {
         group: Rule::NotEqual,
         individual: Rule::NotEqual,
-    },
-    Setting::Undefined,
-    Setting::Undefined,
-    Setting::Undefined,
-    Setting::Defined {
+    }),
+    None,
+    None,
+    None,
+    Some(Rules {
         group: Rule::Pass,
         individual: Rule::Pass,
-    },
-    Setting::Defined {
+    }),
+    Some(Rules {
         group: Rule::Pass,
         individual: Rule::Pass,
-    },
-    Setting::Defined {
+    }),
+    Some(Rules {
         group: Rule::Pass,
         individual: Rule::Pass,
-    },
-    Setting::Defined {
+    }),
+    Some(Rules {
         group: Rule::Pass,
         individual: Rule::Pass,
-    },
-    Setting::Undefined,
-    Setting::Undefined,
-    Setting::Undefined,
-    Setting::Undefined,
-    Setting::Defined {
+    }),
+    None,
+    None,
+    None,
+    None,
+    Some(Rules {
         group: Rule::Pass,
         individual: Rule::Equal,
-    },
-    Setting::Defined {
+    }),
+    Some(Rules {
         group: Rule::Pass,
         individual: Rule::Equal,
-    },
-    Setting::Undefined,
-    Setting::Defined {
+    }),
+    None,
+    Some(Rules {
         group: Rule::Pass,
         individual: Rule::Hash,
-    },
-    Setting::Undefined,
-    Setting::Undefined,
-    Setting::Undefined,
-    Setting::Undefined,
-    Setting::Defined {
+    }),
+    None,
+    None,
+    None,
+    None,
+    Some(Rules {
         group: Rule::Pass,
         individual: Rule::Pass,
-    },
-    Setting::Defined {
+    }),
+    Some(Rules {
         group: Rule::Pass,
         individual: Rule::Pass,
-    },
-    Setting::Defined {
+    }),
+    Some(Rules {
         group: Rule::Pass,
         individual: Rule::Pass,
-    },
-    Setting::Defined {
+    }),
+    Some(Rules {
         group: Rule::Pass,
         individual: Rule::Pass,
-    },
-    Setting::Undefined,
-    Setting::Undefined,
-    Setting::Undefined,
-    Setting::Undefined,
+    }),
+    None,
+    None,
+    None,
+    None,
 ];
 
 // The setting with number k.
 #[tactic(auto, unfolding(paper::specs::Registers::settings))]
 pub fn setting_at(k: usize) -> Setting
     requires { k < 32 }
-    ensures { result ≡ get_or settings k (Setting.Undefined) }
+    ensures { result ≡ get_or settings k None }
 {
     SETTINGS[k]
 }
@@ -191,16 +191,15 @@ fn passes_setting(setting: Setting, r: Registers, frame: &[u8]) -> bool
     requires { 14 ≤ length frame.now }
     ensures { result ≡ passes_setting setting r (take 14 frame.now) }
 {
-    match setting {
-        Setting::Undefined => false,
-        Setting::Defined { group, individual } => {
-            if is_group(frame) {
-                passes_rule(group, r, frame)
-            } else {
-                passes_rule(individual, r, frame)
-            }
-        }
-    }
+    let Some(rules) = setting else {
+        return false;
+    };
+    let rule = if is_group(frame) {
+        rules.group
+    } else {
+        rules.individual
+    };
+    passes_rule(rule, r, frame)
 }
 
 // The filter says yes (01: "Destination FFFFFFFFFFFFh passes exactly when BCAST is clear, in every mode (ours). Otherwise, by .. the setting").

@@ -2,6 +2,7 @@
 --   Told                  the answers to one call in two runs: equal; or receive data words, and those equal for frames with equal bytes
 --   told                  so every call is answered in two runs
 -- Assumes nothing.
+use Rattle.std.specs.Prelude.{Ok}
 use mathlib.Core.Path.{◌≡◌, refl, ap, ◌∙◌}
 use mathlib.Core.List.{List, [], ◌∷◌}
 use Prim.Native.Nat.{ℕ, ◌-◌}
@@ -13,9 +14,10 @@ use lib.ListN.{length, get_or, length-drop}
 use lib.Seq.{get_or-drop}
 use borrow.Author.Tests.{eqb-false}
 use Rattle.paper.specs.declared.Control.{Control}
-use Rattle.paper.specs.declared.Answer.{Answer}
-use Rattle.paper.specs.declared.Answer.TheVariants.{Value}
-use Rattle.paper.specs.Memory.{Fifo, TxData, TxStatus, RxData, RxStatus, Four, of, Change}
+use Rattle.paper.specs.Answers.{Answer}
+use Rattle.paper.specs.declared.Fifo.{Fifo}
+use Rattle.paper.specs.declared.Fifo.TheVariants.{TxData, TxStatus, RxData, RxStatus}
+use Rattle.paper.specs.Memory.{Four, of, Change}
 use Rattle.paper.specs.Registers.{rx_fifo_inf, tx_fifo_inf}
 use Rattle.paper.specs.Status.{look}
 use Rattle.paper.specs.Arrivals.{data_words}
@@ -52,7 +54,7 @@ oldest_told : (l l' : Ledger) (k : Control) (c : Four Change) (q q' : List ℕ) 
 oldest_told l l' k c [] [] n same = equal refl
 oldest_told l l' k c [] (u ∷ q') n same = absurd (omega arith)
 oldest_told l l' k c (u ∷ q) [] n same = absurd (omega arith)
-oldest_told l l' k c (u ∷ q) (u' ∷ q') n same = word refl (λ s. ap Value (same s))
+oldest_told l l' k c (u ∷ q) (u' ∷ q') n same = word refl (λ s. ap Ok (same s))
 
 module _ {l l' : Ledger} {w w' : World} (h : Kept l w) (h' : Kept l' w') (e : Alike l l') where
   -- In each FIFO as many words wait.
@@ -106,8 +108,8 @@ module _ {l l' : Ledger} {w w' : World} (h : Kept l w) (h' : Kept l' w') (e : Al
   decided_told (MacRead register) = equal refl
   decided_told (SetSplit n) = equal (ap (λ x. (set_split n (control_of l) x).answer) levels_alike)
   decided_told Split = equal refl
-  decided_told RxFifoInf = equal (ap (λ (x : Four ℕ). Value (rx_fifo_inf x.rxstatus x.rxdata)) levels_alike)
-  decided_told TxFifoInf = equal (ap (λ (x : Four ℕ). Value (tx_fifo_inf l.registers.n x.txstatus x.txdata)) levels_alike)
+  decided_told RxFifoInf = equal (ap (λ (x : Four ℕ). Ok (rx_fifo_inf x.rxstatus x.rxdata)) levels_alike)
+  decided_told TxFifoInf = equal (ap (λ (x : Four ℕ). Ok (tx_fifo_inf l.registers.n x.txstatus x.txdata)) levels_alike)
   decided_told RxDrop = equal refl
   decided_told DumpTxData = equal refl
   decided_told DumpTxStatus = equal refl

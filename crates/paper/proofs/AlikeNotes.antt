@@ -3,14 +3,14 @@
 --   payload_note, content_note    a payload word, or the content of a frame, may be another
 --   next_bare             the first B of the packet to be sent next is no content
 -- Assumes nothing.
+use Rattle.std.specs.Prelude.{Err, Ok}
 use native.Mathlib.Omega.{arith}
 use mathlib.Core.Path.{◌≡◌, refl, sym, ap, ◌∙◌}
 use mathlib.Core.List.{List, [], ◌∷◌, ◌++◌, map, map-append}
 use Prim.Native.Nat.{ℕ, zero, suc}
 use lib.Dec.{eqb}
 use lib.ListN.{length, take, drop, length-append}
-use Rattle.paper.specs.declared.Answer.{Answer}
-use Rattle.paper.specs.declared.Answer.TheVariants.{Value, Refused}
+use Rattle.paper.specs.Answers.{Answer}
 use Rattle.paper.specs.declared.Packet.{Packet}
 use Rattle.paper.specs.declared.Expect.TheVariants.{Payload}
 use Rattle.paper.specs.Checksum.{fcs_fits}
@@ -75,8 +75,8 @@ entered_bare TxStatusPeek v l = simp bare-laws
 -- An answer noted in a ledger and in its bare one.
 note_bare : (c : Call) (a : Answer) (l : Ledger) → Alike (note c a l) (note c a (bare l))
 unfolding note
-note_bare c (Value v) l = entered_bare c v l
-note_bare c (Refused r) l = if_alike bare (sets_error r) (λ _. unfold bare in simp bare-laws) (λ _. unfold bare in simp bare-laws)
+note_bare c (Ok v) l = entered_bare c v l
+note_bare c (Err r) l = if_alike bare (sets_error r) (λ _. unfold bare in simp bare-laws) (λ _. unfold bare in simp bare-laws)
 
 -- An answer noted in ledgers that are alike.
 pub note_alike : (c : Call) (a : Answer) (l l' : Ledger) → Alike l l' → Alike (note c a l) (note c a l')
@@ -97,12 +97,12 @@ payload_bare u v (Filling b xs a ws) x a' left k e =
 pub payload_note : (u v : ℕ) (answer : Answer) (l : Ledger) (a left : ℕ) (k : Packet) → expect_of l.wrote.taking ≡ Payload a left k
     → Alike (note (TxWord u) answer l) (note (TxWord v) answer l)
 unfolding note entered bare
-payload_note u v (Value x) l a left k e = rw (payload_bare u v l.wrote.taking l.wrote a left k e)
-payload_note u v (Refused r) l a left k e = refl
+payload_note u v (Ok x) l a left k e = rw (payload_bare u v l.wrote.taking l.wrote a left k e)
+payload_note u v (Err r) l a left k e = refl
 
 -- Frames that look alike are noted alike.
 pub content_note : (f g : List ℕ) (flags : ℕ) (answer : Answer) (l : Ledger) → length f ≡ length g → take 14 f ≡ take 14 g → fcs_fits f ≡ fcs_fits g
     → Alike (note (Arrive f flags) answer l) (note (Arrive g flags) answer l)
 unfolding note entered
-content_note f g flags (Value x) l e e' e'' = if_alike bare (eqb x 7) (λ _. unfold bare in simp (map-append, e, e', e'')) (λ _. refl)
-content_note f g flags (Refused r) l e e' e'' = refl
+content_note f g flags (Ok x) l e e' e'' = if_alike bare (eqb x 7) (λ _. unfold bare in simp (map-append, e, e', e'')) (λ _. refl)
+content_note f g flags (Err r) l e e' e'' = refl

@@ -4,18 +4,16 @@
 --   said_one_to_one       two answers said alike are the same
 --   arrival_one_to_one    two arrivals answered alike are the same
 -- Assumes nothing.
-use Rattle.std.specs.Prelude.{if◌then◌else◌}
+use Rattle.std.specs.Prelude.{if◌then◌else◌, Err, Ok}
 use mathlib.Core.Path.{◌≡◌, refl, sym, ap, ◌∙◌}
 use Prim.Native.Nat.{ℕ, ◌≤◌}
 use native.Mathlib.Omega.{arith}
 use lib.Dec.{eqb}
 use Rattle.paper.specs.declared.Refusal.{Refusal}
 use Rattle.paper.specs.declared.Refusal.TheVariants.{ArrivingLength, OtherBits, NoRegister, BadValue, NotNow, ErrorStands, BadCommand, Disagrees, DataFull, SendingOff, NothingThere, StatusFull, OutShort, MemoryLength, OutOfRange}
-use Rattle.paper.specs.declared.Answer.{Answer}
-use Rattle.paper.specs.declared.Answer.TheVariants.{Value, Refused}
-use Rattle.paper.specs.declared.Arrival.{Arrival}
-use Rattle.paper.specs.declared.Arrival.TheVariants.{Refused as RefusedArrival, Ignored, Discarded, Filtered, Dropped, Stored}
-use Rattle.paper.specs.Arrivals.{arrival_answer}
+use Rattle.paper.specs.Answers.{Answer}
+use Rattle.paper.specs.declared.Arrival.TheVariants.{Ignored, Discarded, Filtered, Dropped, Stored}
+use Rattle.paper.specs.Arrivals.{Verdict, arrival_answer}
 use Rattle.paper.specs.Refusals.{number, said}
 
 -- A refusal's number is 1 to 15.
@@ -79,32 +77,32 @@ number_one_to_one r r' e = sym (refusal_number r) ∙ ap refusal_of e ∙ refusa
 
 -- Two answers said alike are the same.
 pub said_one_to_one : (a b : Answer) → said a ≡ said b → a ≡ b
-said_one_to_one (Value v) (Value w) e = ap Value (ap (λ s. s.value) e)
-said_one_to_one (Value v) (Refused r) e =
+said_one_to_one (Ok v) (Ok w) e = ap Ok (ap (λ s. s.value) e)
+said_one_to_one (Ok v) (Err r) e =
     let z : 0 ≡ number r = ap (λ s. s.refusal) e in
     let p : 1 ≤ number r = (number_range r).0 in
     absurd (omega arith)
-said_one_to_one (Refused r) (Value v) e =
+said_one_to_one (Err r) (Ok v) e =
     let z : number r ≡ 0 = ap (λ s. s.refusal) e in
     let p : 1 ≤ number r = (number_range r).0 in
     absurd (omega arith)
-said_one_to_one (Refused r) (Refused r') e = ap Refused (number_one_to_one r r' (ap (λ s. s.refusal) e))
+said_one_to_one (Err r) (Err r') e = ap Err (number_one_to_one r r' (ap (λ s. s.refusal) e))
 
 -- the arrival that an answer tells of
-abbrev arrival_of : Answer → Arrival
-arrival_of (Refused r) = RefusedArrival r
-arrival_of (Value v) =
-    if eqb v 3 then Ignored else if eqb v 4 then Discarded else if eqb v 5 then Filtered else if eqb v 6 then Dropped else Stored
+abbrev arrival_of : Answer → Verdict
+arrival_of (Err r) = Err r
+arrival_of (Ok v) =
+    Ok (if eqb v 3 then Ignored else if eqb v 4 then Discarded else if eqb v 5 then Filtered else if eqb v 6 then Dropped else Stored)
 
 -- The arrival told of by the answer of a is a.
-arrival_answer_lem : (a : Arrival) → arrival_of (arrival_answer a) ≡ a
-arrival_answer_lem (RefusedArrival r) = refl
-arrival_answer_lem Ignored = refl
-arrival_answer_lem Discarded = refl
-arrival_answer_lem Filtered = refl
-arrival_answer_lem Dropped = refl
-arrival_answer_lem Stored = refl
+arrival_answer_lem : (a : Verdict) → arrival_of (arrival_answer a) ≡ a
+arrival_answer_lem (Err r) = refl
+arrival_answer_lem (Ok Ignored) = refl
+arrival_answer_lem (Ok Discarded) = refl
+arrival_answer_lem (Ok Filtered) = refl
+arrival_answer_lem (Ok Dropped) = refl
+arrival_answer_lem (Ok Stored) = refl
 
 -- Two arrivals answered alike are the same.
-pub arrival_one_to_one : (a b : Arrival) → arrival_answer a ≡ arrival_answer b → a ≡ b
+pub arrival_one_to_one : (a b : Verdict) → arrival_answer a ≡ arrival_answer b → a ≡ b
 arrival_one_to_one a b e = sym (arrival_answer_lem a) ∙ ap arrival_of e ∙ arrival_answer_lem b

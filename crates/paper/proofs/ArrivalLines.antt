@@ -7,7 +7,7 @@
 --   arrives_fits                  what an arrival puts fits
 --   passes_drops                  the filter does not look at RX_DROP
 -- Assumes nothing.
-use Rattle.std.specs.Prelude.{if◌then◌else◌}
+use Rattle.std.specs.Prelude.{if◌then◌else◌, Err, None, Ok, Some}
 use mathlib.Core.Path.{◌≡◌, refl}
 use mathlib.Core.Logic.{◌≢◌}
 use mathlib.Core.Bool.{Bool, true, false, not, ◌&&◌, ◌||◌}
@@ -20,16 +20,14 @@ use borrow.Author.Tests.{ltb-false, eqb-false, not-false}
 use Rattle.paper.specs.declared.Registers.{Registers}
 use Rattle.paper.specs.declared.Rule.{Rule}
 use Rattle.paper.specs.declared.Rule.TheVariants.{Equal, NotEqual, Hash, Pass}
-use Rattle.paper.specs.declared.Setting.{Setting}
-use Rattle.paper.specs.declared.Setting.TheVariants.{Undefined, Defined}
 use Rattle.paper.specs.declared.Control.{Control}
-use Rattle.paper.specs.declared.Arrival.{Arrival}
-use Rattle.paper.specs.declared.Arrival.TheVariants.{Refused as RefusedArrival, Ignored, Discarded, Filtered, Dropped, Stored}
-use Rattle.paper.specs.Memory.{RxData, RxStatus, size}
-use Rattle.paper.specs.Registers.{setting_of, with_drops}
+use Rattle.paper.specs.declared.Arrival.TheVariants.{Ignored, Discarded, Filtered, Dropped, Stored}
+use Rattle.paper.specs.declared.Fifo.TheVariants.{RxData, RxStatus}
+use Rattle.paper.specs.Memory.{size}
+use Rattle.paper.specs.Registers.{Setting, setting_of, with_drops}
 use Rattle.paper.specs.Filter.{passes_rule, passes_setting, passes, destination, is_group}
 use Rattle.paper.specs.Status.{Look, look}
-use Rattle.paper.specs.Arrivals.{words_for, data_words, room, by_room, arrival, arrival_answer}
+use Rattle.paper.specs.Arrivals.{Verdict, words_for, data_words, room, by_room, arrival, arrival_answer}
 use Rattle.paper.specs.Acts.{unchanged, arrives}
 use Rattle.paper.specs.Machine.{World, waits}
 use Rattle.paper.specs.Ledger.{sets_error}
@@ -44,16 +42,16 @@ abbrev pub is_short : (words statuses len : ℕ) → Bool
 is_short words statuses len = ltb words (words_for len) || eqb statuses 0
 
 -- what an answer says
-abbrev pub Says : Arrival → Registers → (words statuses : ℕ) → Look → Type 0
-Says (RefusedArrival e) r words statuses l = sets_error e ≡ false
-Says Ignored r words statuses l = Unit {0}
-Says Discarded r words statuses l = Unit {0}
-Says Filtered r words statuses l = Unit {0}
-Says Dropped r words statuses l = Due r l × (is_short words statuses l.len ≡ true)
-Says Stored r words statuses l = (words_for l.len ≤ words) × (0 < statuses)
+abbrev pub Says : Verdict → Registers → (words statuses : ℕ) → Look → Type 0
+Says (Err e) r words statuses l = sets_error e ≡ false
+Says (Ok Ignored) r words statuses l = Unit {0}
+Says (Ok Discarded) r words statuses l = Unit {0}
+Says (Ok Filtered) r words statuses l = Unit {0}
+Says (Ok Dropped) r words statuses l = Due r l × (is_short words statuses l.len ≡ true)
+Says (Ok Stored) r words statuses l = (words_for l.len ≤ words) × (0 < statuses)
 
 -- the same in a world, under the control state k
-abbrev pub SaysAt : Arrival → Control → World → Look → Type 0
+abbrev pub SaysAt : Verdict → Control → World → Look → Type 0
 SaysAt a k w l =
     Says a k.registers (size RxData k.registers.n - length (waits w).rxdata) (size RxStatus k.registers.n - length (waits w).rxstatus) l
 
@@ -71,9 +69,9 @@ passed_or_all false false e = cc
 
 module _ (r : Registers) (words statuses : ℕ) (l : Look) where
   -- A frame that is due is stored where there is room, and else dropped.
-  due_says : Due r l → Says (by_room (room l.len words statuses)) r words statuses l
+  due_says : Due r l → Says (Ok (by_room (room l.len words statuses))) r words statuses l
   unfolding room
-  due_says due = if_cases (λ x. Says (by_room x) r words statuses l) _ (λ t. (due, t)) fits
+  due_says due = if_cases (λ x. Says (Ok (by_room x)) r words statuses l) _ (λ t. (due, t)) fits
     where
       fits : is_short words statuses l.len ≡ false → (words_for l.len ≤ words) × (0 < statuses)
       fits t =
@@ -98,54 +96,54 @@ module _ (r : Registers) (words statuses : ℕ) (l : Look) where
         passed = passed_or_all (passes r l.head) _ passed;
       })
     where
-      says : Arrival → Type 0
+      says : Verdict → Type 0
       says a = Says a r words statuses l
 
   -- A frame that is due and for which line 6 applies is dropped.
-  pub arrival_drops : Due r l → is_short words statuses l.len ≡ true → arrival r words statuses l ≡ Dropped
+  pub arrival_drops : Due r l → is_short words statuses l.len ≡ true → arrival r words statuses l ≡ Ok Dropped
   unfolding arrival room
   arrival_drops due t = rw (due.length_good, due.flags, due.receiving, due.not_discarded, not_filtered (passes r l.head) _ due.passed, t)
 
 -- What is answered to an arrival is its line.
-pub arrives_answer : (a : Arrival) (k : Control) (l : Look) (words : List ℕ) → (arrives a k l words).answer ≡ arrival_answer a
+pub arrives_answer : (a : Verdict) (k : Control) (l : Look) (words : List ℕ) → (arrives a k l words).answer ≡ arrival_answer a
 unfolding arrives
-arrives_answer (RefusedArrival e) k l words = refl
-arrives_answer Ignored k l words = refl
-arrives_answer Discarded k l words = refl
-arrives_answer Filtered k l words = refl
-arrives_answer Dropped k l words = refl
-arrives_answer Stored k l words = refl
+arrives_answer (Err e) k l words = refl
+arrives_answer (Ok Ignored) k l words = refl
+arrives_answer (Ok Discarded) k l words = refl
+arrives_answer (Ok Filtered) k l words = refl
+arrives_answer (Ok Dropped) k l words = refl
+arrives_answer (Ok Stored) k l words = refl
 
 -- An arrival leaves n.
-pub arrives_split : (a : Arrival) (k : Control) (l : Look) (words : List ℕ) → (arrives a k l words).control.registers.n ≡ k.registers.n
+pub arrives_split : (a : Verdict) (k : Control) (l : Look) (words : List ℕ) → (arrives a k l words).control.registers.n ≡ k.registers.n
 unfolding arrives
-arrives_split (RefusedArrival e) k l words = refl
-arrives_split Ignored k l words = refl
-arrives_split Discarded k l words = refl
-arrives_split Filtered k l words = refl
-arrives_split Dropped k l words = refl
-arrives_split Stored k l words = refl
+arrives_split (Err e) k l words = refl
+arrives_split (Ok Ignored) k l words = refl
+arrives_split (Ok Discarded) k l words = refl
+arrives_split (Ok Filtered) k l words = refl
+arrives_split (Ok Dropped) k l words = refl
+arrives_split (Ok Stored) k l words = refl
 
 -- An arrival that is not stored leaves all four FIFOs.
-pub arrives_still : (a : Arrival) (k : Control) (l : Look) (words : List ℕ) → a ≢ Stored → (arrives a k l words).changes ≡ unchanged
+pub arrives_still : (a : Verdict) (k : Control) (l : Look) (words : List ℕ) → a ≢ Ok Stored → (arrives a k l words).changes ≡ unchanged
 unfolding arrives
-arrives_still (RefusedArrival e) k l words d = refl
-arrives_still Ignored k l words d = refl
-arrives_still Discarded k l words d = refl
-arrives_still Filtered k l words d = refl
-arrives_still Dropped k l words d = refl
-arrives_still Stored k l words d = absurd (d refl)
+arrives_still (Err e) k l words d = refl
+arrives_still (Ok Ignored) k l words d = refl
+arrives_still (Ok Discarded) k l words d = refl
+arrives_still (Ok Filtered) k l words d = refl
+arrives_still (Ok Dropped) k l words d = refl
+arrives_still (Ok Stored) k l words d = absurd (d refl)
 
 -- What an arrival puts fits: the words and the status of a frame that is stored have room.
-pub arrives_fits : (a : Arrival) (k : Control) (w : World) (frame : List ℕ) (flags : ℕ) → Sound w → k.registers.n ≡ split w
+pub arrives_fits : (a : Verdict) (k : Control) (w : World) (frame : List ℕ) (flags : ℕ) → Sound w → k.registers.n ≡ split w
     → SaysAt a k w (look frame flags) → AllFit (arrives a k (look frame flags) (data_words frame)) w
 unfolding arrives
-arrives_fits (RefusedArrival e) k w frame flags sound same says = each _ tt tt tt tt
-arrives_fits Ignored k w frame flags sound same says = each _ tt tt tt tt
-arrives_fits Discarded k w frame flags sound same says = each _ tt tt tt tt
-arrives_fits Filtered k w frame flags sound same says = each _ tt tt tt tt
-arrives_fits Dropped k w frame flags sound same says = each _ tt tt tt tt
-arrives_fits Stored k w frame flags sound same says =
+arrives_fits (Err e) k w frame flags sound same says = each _ tt tt tt tt
+arrives_fits (Ok Ignored) k w frame flags sound same says = each _ tt tt tt tt
+arrives_fits (Ok Discarded) k w frame flags sound same says = each _ tt tt tt tt
+arrives_fits (Ok Filtered) k w frame flags sound same says = each _ tt tt tt tt
+arrives_fits (Ok Dropped) k w frame flags sound same says = each _ tt tt tt tt
+arrives_fits (Ok Stored) k w frame flags sound same says =
     each _ tt tt
     (omega (arith, data_words-length frame, waits_count w RxData, sound.rings RxData))
     (omega (arith, waits_count w RxStatus))
@@ -161,8 +159,8 @@ rule_drops d Pass r address = refl
 -- A setting does not.
 setting_drops : (d : ℕ) (s : Setting) (r : Registers) (head : List ℕ) → passes_setting s (with_drops d r) head ≡ passes_setting s r head
 unfolding passes_setting
-setting_drops d Undefined r head = refl
-setting_drops d (Defined group individual) r head = rule_drops d (if is_group head then group else individual) r (destination head)
+setting_drops d None r head = refl
+setting_drops d (Some rules) r head = rule_drops d (if is_group head then rules.group else rules.individual) r (destination head)
 
 -- The filter does not.
 pub passes_drops : (d : ℕ) (r : Registers) (head : List ℕ) → passes (with_drops d r) head ≡ passes r head

@@ -4,7 +4,6 @@
 --   and_left, and_right, and_three, and_four, and_both, or_neither    what a joined test says of its parts
 --   mark_bound                    a mark is at most its bit
 -- Assumes nothing.
-use Rattle.std.specs.Prelude.{if◌then◌else◌}
 use mathlib.Core.Path.{◌≡◌, refl}
 use mathlib.Core.Bool.{Bool, true, false, cond, ◌&&◌, ◌||◌}
 use Prim.Native.Nat.{ℕ, ◌≤◌, ◌^◌}

@@ -8,6 +8,7 @@
 --   levels_are            the words waiting, as numbers, are the rings' counts
 --   none_waits, oldest_waits    a FIFO with no word, and one with its oldest word
 -- Assumes nothing.
+use Rattle.std.specs.Prelude.{Err}
 use mathlib.Core.Path.{◌≡◌, refl, ap, ◌∙◌}
 use mathlib.Core.Bool.{true, false}
 use mathlib.Core.List.{List, [], ◌∷◌}
@@ -17,15 +18,17 @@ use borrow.Author.Tests.{eq-eqb, ne_eqb}
 use Rattle.paper.specs.declared.Control.{Control}
 use Rattle.paper.specs.declared.State.{State}
 use Rattle.paper.specs.declared.Refusal.TheVariants.{MemoryLength, OutOfRange}
-use Rattle.paper.specs.declared.Answer.TheVariants.{Refused}
-use Rattle.paper.specs.Memory.{words_lent, Fifo, TxData, TxStatus, RxData, RxStatus, Four, of, size, base, takes, ring_after, memory_after, waiting}
+use Rattle.paper.specs.declared.Fifo.{Fifo}
+use Rattle.paper.specs.declared.Fifo.TheVariants.{TxData, TxStatus, RxData, RxStatus}
+use Rattle.paper.specs.Memory.{words_lent, Four, of, size, base, takes, ring_after, memory_after, waiting}
 use Rattle.paper.specs.Refusals.{in_range}
 use Rattle.paper.specs.Calls.{Call, is_reset, lends}
 use Rattle.paper.specs.Acts.{Act, unchanged, refuses}
 use Rattle.paper.specs.Machine.{World, waits, levels, decide, apply, act, step}
 use Rattle.paper.specs.Promises.{told, told_of}
 use Rattle.paper.proofs.Memory.{waiting_none, waiting_oldest}
-use Rattle.paper.proofs.Rings.{ring, waits_of, apply_nothing}
+use Rattle.paper.specs.Memory.{ring}
+use Rattle.paper.proofs.Rings.{waits_of, apply_nothing}
 use Rattle.paper.proofs.Fifos.{waits_count}
 use Rattle.paper.proofs.KeepsRanges.{in_range_act}
 
@@ -51,12 +54,12 @@ module _ (c : Call) (s : State) (m : List ℕ) where
   told_still a e none lent same kept = told_act a e none lent ∙ ap (λ (w : World). told a.answer w.state w.memory) (apply_nothing a (world s m) same kept)
 
   -- Memory that is not 4,096 words: 14.
-  pub told_short : (length m ≡ words_lent → ⊥) → lends c ≡ [] → told_of c s m ≡ told (Refused MemoryLength) s m
+  pub told_short : (length m ≡ words_lent → ⊥) → lends c ≡ [] → told_of c s m ≡ told (Err MemoryLength) s m
   unfolding act
   told_short short lent = told_still (refuses MemoryLength s.control) (rw (ne_eqb (length m) words_lent short)) refl lent refl refl
 
   -- A state out of range: 15, but for reset.
-  pub told_lost : length m ≡ words_lent → in_range s ≡ false → is_reset c ≡ false → lends c ≡ [] → told_of c s m ≡ told (Refused OutOfRange) s m
+  pub told_lost : length m ≡ words_lent → in_range s ≡ false → is_reset c ≡ false → lends c ≡ [] → told_of c s m ≡ told (Err OutOfRange) s m
   unfolding act
   told_lost long lost other lent = told_still (refuses OutOfRange s.control) (rw (eq-eqb (length m) words_lent long, lost, other)) refl lent refl refl
 

@@ -3,6 +3,7 @@
 --   allowed_met           every pair of calls that is allowed gives this
 --   demand_3, support_log    the theorems
 -- Assumes nothing.
+use Rattle.std.specs.Prelude.{Err, Ok}
 use native.Mathlib.Omega.{arith}
 use mathlib.Core.Path.{◌≡◌, refl, sym, ap, ap₂, subst, ◌∙◌}
 use mathlib.Core.Bool.{Bool, true}
@@ -11,8 +12,7 @@ use Prim.Native.Nat.{ℕ}
 use Rattle.paper.specs.declared.Port.{Port}
 use Rattle.paper.specs.declared.Control.{Control}
 use Rattle.paper.specs.declared.Refusal.TheVariants.{ErrorStands}
-use Rattle.paper.specs.declared.Answer.{Answer}
-use Rattle.paper.specs.declared.Answer.TheVariants.{Value, Refused}
+use Rattle.paper.specs.Answers.{Answer}
 use Rattle.paper.specs.Memory.{Four}
 use Rattle.paper.specs.Status.{Look, look}
 use Rattle.paper.specs.Arrivals.{data_words}
@@ -42,8 +42,8 @@ pub record Met (l l' : Ledger) (c c' : Call) (a a' : Answer) : Type 0 where
 -- The word of a read is not noted.
 read_note : (a : Answer) (l : Ledger) → note RxDataRead a l ≡ note RxDataRead (blank_word a) l
 unfolding note entered
-read_note (Value v) l = refl
-read_note (Refused r) l = refl
+read_note (Ok v) l = refl
+read_note (Err r) l = refl
 
 -- The same call, answered as told.
 told_met : (l l' : Ledger) → Alike l l' → {c : Call} {a a' : Answer} → Told l l' c a a' → Met l l' c c a a'
@@ -59,7 +59,7 @@ told_met l l' e (word {a} {a'} b s) =
 -- ---- Another call in one run
 
 -- Where a transmit error stands, a word is refused with 6.
-error_stands : (free : Bool) (p : Port) (u : ℕ) → p.failed ≡ true → (port_takes free p u).answer ≡ Refused ErrorStands
+error_stands : (free : Bool) (p : Port) (u : ℕ) → p.failed ≡ true → (port_takes free p u).answer ≡ Err ErrorStands
 unfolding port_takes
 error_stands free p u e = rw e
 

@@ -10,7 +10,8 @@ use lib.Dec.{ltb, leb}
 use borrow.Author.Tests.{ltb-true, leb-true, lt-ltb, le-leb}
 use Rattle.paper.specs.declared.Ring.{Ring}
 use Rattle.paper.specs.declared.State.{State}
-use Rattle.paper.specs.Memory.{TxData, TxStatus, RxData, RxStatus, size}
+use Rattle.paper.specs.declared.Fifo.TheVariants.{TxData, TxStatus, RxData, RxStatus}
+use Rattle.paper.specs.Memory.{size}
 use Rattle.paper.specs.Registers.{good_maccr, good_addrh, good_n, good_registers}
 use Rattle.paper.specs.Fresh.{fresh_state}
 use Rattle.paper.specs.Refusals.{ring_in_range, rings_in_range, expect_in_range, in_range}

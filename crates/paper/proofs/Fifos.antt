@@ -4,10 +4,13 @@
 -- Assumes nothing.
 use mathlib.Core.Path.{◌≡◌, ap, ◌∙◌}
 use lib.ListN.{length}
-use Rattle.paper.specs.Memory.{Fifo, TxData, TxStatus, RxData, RxStatus, size, base, of}
+use Rattle.paper.specs.declared.Fifo.{Fifo}
+use Rattle.paper.specs.declared.Fifo.TheVariants.{TxData, TxStatus, RxData, RxStatus}
+use Rattle.paper.specs.Memory.{size, base, of}
 use Rattle.paper.specs.Machine.{World, waits}
 use Rattle.paper.proofs.Memory.{waiting_length}
-use Rattle.paper.proofs.Rings.{ring, split, waits_of}
+use Rattle.paper.specs.Memory.{ring}
+use Rattle.paper.proofs.Rings.{split, waits_of}
 
 -- Four facts, one for each FIFO, are a fact of every FIFO.
 pub each : (P : Fifo → Type 0) → P TxData → P TxStatus → P RxData → P RxStatus → (f : Fifo) → P f

@@ -3,6 +3,7 @@
 --   in_range_act          in range, with 4,096 words lent, a call does what is decided
 --   keeps_ranges
 -- Assumes nothing.
+use Rattle.std.specs.Prelude.{Err, Ok}
 use mathlib.Core.Path.{◌≡◌, refl, ap}
 use mathlib.Core.Bool.{true, and-false}
 use mathlib.Core.List.{List, [], ◌∷◌}
@@ -10,12 +11,13 @@ use Prim.Native.Nat.{ℕ, ◌<◌}
 use native.Mathlib.Omega.{arith}
 use lib.ListN.{length}
 use borrow.Author.Tests.{eq-eqb}
-use Rattle.paper.specs.declared.Arrival.{Arrival}
-use Rattle.paper.specs.declared.Arrival.TheVariants.{Refused as RefusedArrival, Ignored, Discarded, Filtered, Dropped, Stored}
-use Rattle.paper.specs.Memory.{Fifo, TxData, TxStatus, RxData, RxStatus, Four, Change, keeps, size, of, ring_after}
+use Rattle.paper.specs.declared.Arrival.TheVariants.{Ignored, Discarded, Filtered, Dropped, Stored}
+use Rattle.paper.specs.declared.Fifo.{Fifo}
+use Rattle.paper.specs.declared.Fifo.TheVariants.{TxData, TxStatus, RxData, RxStatus}
+use Rattle.paper.specs.Memory.{Four, Change, keeps, size, of, ring_after}
 use Rattle.paper.specs.Registers.{with_drops}
 use Rattle.paper.specs.Status.{Look, look}
-use Rattle.paper.specs.Arrivals.{data_words}
+use Rattle.paper.specs.Arrivals.{Verdict, data_words}
 use Rattle.paper.specs.Refusals.{in_range}
 use Rattle.paper.specs.Calls.{Call}
 use Rattle.paper.specs.Acts.{Act, arrives, oldest, with_registers}
@@ -23,7 +25,8 @@ use Rattle.paper.specs.Machine.{World, waits, decide, apply, act, step}
 use Rattle.paper.specs.Runs.{Lent, Reading, arrives as arrival, reads, pops, peeks, pops_tx, peeks_tx}
 use Rattle.paper.specs.Promises.{KeepsRanges}
 use Rattle.paper.proofs.Memory.{Fits}
-use Rattle.paper.proofs.Rings.{ring, split, Sound, AllFit, apply_sound}
+use Rattle.paper.specs.Memory.{ring}
+use Rattle.paper.proofs.Rings.{split, Sound, AllFit, apply_sound}
 use Rattle.paper.proofs.Fifos.{each, waits_count}
 use Rattle.paper.proofs.Entry.{Ready, ready, in_range_lem}
 use Rattle.paper.proofs.ArrivalLines.{arrival_says, arrives_fits}
@@ -86,15 +89,15 @@ module _ (w : World) (lent : Lent w.memory) (r : Ready w.state) where
       by_cases (v ∷ q) e = act_in_range _ (fits (omega arith)) same (_, refl)
 
   -- So does what an arrival does, whichever line answers, if it fits.
-  line_in_range : (a : Arrival) (l : Look) (words : List ℕ) → AllFit (arrives a w.state.control l words) w
+  line_in_range : (a : Verdict) (l : Look) (words : List ℕ) → AllFit (arrives a w.state.control l words) w
       → in_range (apply (arrives a w.state.control l words) w).state ≡ true
   unfolding arrives
-  line_in_range (RefusedArrival e) l words fits = act_in_range _ fits refl (_, refl)
-  line_in_range Ignored l words fits = act_in_range _ fits refl (_, refl)
-  line_in_range Discarded l words fits = act_in_range _ fits refl (_, refl)
-  line_in_range Filtered l words fits = act_in_range _ fits refl (_, refl)
-  line_in_range Dropped l words fits = act_in_range _ fits refl (_, refl)
-  line_in_range Stored l words fits = act_in_range _ fits refl (_, refl)
+  line_in_range (Err e) l words fits = act_in_range _ fits refl (_, refl)
+  line_in_range (Ok Ignored) l words fits = act_in_range _ fits refl (_, refl)
+  line_in_range (Ok Discarded) l words fits = act_in_range _ fits refl (_, refl)
+  line_in_range (Ok Filtered) l words fits = act_in_range _ fits refl (_, refl)
+  line_in_range (Ok Dropped) l words fits = act_in_range _ fits refl (_, refl)
+  line_in_range (Ok Stored) l words fits = act_in_range _ fits refl (_, refl)
 
   -- So does what is decided of an arrival, a read, a pop or a peek.
   decided_in_range : {c : Call} → Reading c → in_range (apply (decide c w.state.control (waits w)) w).state ≡ true

@@ -23,7 +23,9 @@ use Rattle.paper.specs.declared.Expect.{Expect}
 use Rattle.paper.specs.declared.Expect.TheVariants.{CommandA, CommandB, Payload}
 use Rattle.paper.specs.declared.Port.{Port}
 use Rattle.paper.specs.declared.Control.{Control}
-use Rattle.paper.specs.Memory.{Fifo, TxData, TxStatus, RxData, RxStatus, Change, keeps, puts, takes, restarts, size, of, words_lent}
+use Rattle.paper.specs.declared.Fifo.{Fifo}
+use Rattle.paper.specs.declared.Fifo.TheVariants.{TxData, TxStatus, RxData, RxStatus}
+use Rattle.paper.specs.Memory.{Change, keeps, puts, takes, restarts, size, of, words_lent}
 use Rattle.paper.specs.Memory.{ring_after, memory_after, waiting_after}
 use Rattle.paper.specs.Registers.{good_n, good_maccr, good_addrh, good_registers, with_drops}
 use Rattle.paper.specs.Fresh.{fresh_registers, fresh_control}
@@ -36,7 +38,8 @@ use Rattle.paper.specs.Ledger.{laid_all, laid_so_far, all_words}
 use Rattle.paper.proofs.Choice.{and_left, and_right, and_three}
 use Rattle.paper.proofs.Memory.{Fits, waiting_length}
 use Rattle.paper.proofs.Compute.{everything}
-use Rattle.paper.proofs.Rings.{ring, split, waits_of, Sound, AllFit, apply-ring, apply-ring_anew, apply-split}
+use Rattle.paper.specs.Memory.{ring}
+use Rattle.paper.proofs.Rings.{split, waits_of, Sound, AllFit, apply-ring, apply-ring_anew, apply-split}
 use Rattle.paper.proofs.Rings.{apply-waits, apply-waits_anew, apply_sound, apply_sound_anew}
 
 -- ---- The control state that a ledger implies

@@ -11,7 +11,7 @@ use lib.Dec.{eqb}
 use borrow.Author.Tests.{eqb-true, not-false}
 use Rattle.paper.specs.declared.Registers.{Registers}
 use Rattle.paper.specs.declared.Refusal.TheVariants.{NoRegister, BadValue}
-use Rattle.paper.specs.Memory.{TxStatus, RxData, RxStatus}
+use Rattle.paper.specs.declared.Fifo.TheVariants.{TxStatus, RxData, RxStatus}
 use Rattle.paper.specs.Registers.{good_n, good_maccr, good_addrh, good_value, good_registers, write_register, is_register}
 use Rattle.paper.specs.Calls.{MacWrite, MacRead, Split, RxFifoInf, TxFifoInf, RxDrop, RxDataRead, RxStatusPop, RxStatusPeek, TxStatusPop, TxStatusPeek}
 use Rattle.paper.specs.Machine.{World, decide}

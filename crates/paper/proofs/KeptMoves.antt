@@ -5,7 +5,7 @@
 --   kept_beside, kept_registers    an act that leaves the packets; one that changes registers alone
 --   kept_oldest           the oldest word of a FIFO is read, and perhaps taken
 -- Assumes nothing.
-use Rattle.std.specs.Prelude.{if◌then◌else◌}
+use Rattle.std.specs.Prelude.{if◌then◌else◌, Ok}
 use mathlib.Core.Path.{◌≡◌, refl, sym, subst, ◌∙◌}
 use mathlib.Core.Bool.{Bool, true, false}
 use mathlib.Core.List.{List, [], ◌∷◌}
@@ -15,8 +15,8 @@ use lib.ListN.{length}
 use Rattle.paper.specs.declared.Registers.{Registers}
 use Rattle.paper.specs.declared.Refusal.{Refusal}
 use Rattle.paper.specs.declared.Refusal.TheVariants.{NothingThere}
-use Rattle.paper.specs.declared.Answer.TheVariants.{Value}
-use Rattle.paper.specs.Memory.{Fifo, Four, size, of, Change}
+use Rattle.paper.specs.declared.Fifo.{Fifo}
+use Rattle.paper.specs.Memory.{Four, size, of, Change}
 use Rattle.paper.specs.Registers.{good_registers}
 use Rattle.paper.specs.Calls.{Call}
 use Rattle.paper.specs.Acts.{Act, unchanged, refuses, oldest}
@@ -24,7 +24,8 @@ use Rattle.paper.specs.Machine.{World, waits, decide, apply, step, answer, after
 use Rattle.paper.specs.Ledger.{Received, Confirmed, Ledger, sets_error, note, put, taken}
 use Rattle.paper.proofs.Choice.{if_cases}
 use Rattle.paper.proofs.Memory.{Fits}
-use Rattle.paper.proofs.Rings.{ring, split, AllFit, unchanged_fits, apply_nothing}
+use Rattle.paper.specs.Memory.{ring}
+use Rattle.paper.proofs.Rings.{split, AllFit, unchanged_fits, apply_nothing}
 use Rattle.paper.proofs.Fifos.{each, waits_count}
 use Rattle.paper.proofs.Kept.{control_of, Kept, Follows, kept_apply}
 use Rattle.paper.proofs.KeptRange.{kept_act}
@@ -88,7 +89,7 @@ module _ {l : Ledger} {w : World} (h : Kept l w) where
 
   -- The oldest word of a FIFO is read, and perhaps taken.
   pub kept_oldest : (c : Call) (f : Fifo) (changes : Four Change) (x : Received) (y : Confirmed)
-      → ((v : ℕ) → note c (Value v) l ≡ same_packets l.registers l.dropped x y l)
+      → ((v : ℕ) → note c (Ok v) l ≡ same_packets l.registers l.dropped x y l)
       → (0 < (ring f w.state).count → (g : Fifo) → Fits (size g (split w)) (of changes g) (ring g w.state))
       → AllFollow changes l (same_packets l.registers l.dropped x y l) → KeptUnder c l w (oldest (control_of l) changes (of (waits w) f))
   kept_oldest c f changes x y noted fits follows = by_cases (of (waits w) f) (waits_count w f)

@@ -14,7 +14,7 @@ use native.Mathlib.Omega.{arith}
 use lib.Dec.{leb, eqb}
 use lib.ListN.{length, take, drop, length-append, length-drop, take-append-drop}
 use borrow.Author.Tests.{leb-true, eqb-true, le-leb, eq-eqb}
-use Rattle.paper.specs.Memory.{TxData, TxStatus, RxData, RxStatus}
+use Rattle.paper.specs.declared.Fifo.TheVariants.{TxData, TxStatus, RxData, RxStatus}
 use Rattle.paper.specs.Registers.{good_n, good_maccr, good_addrh, good_registers}
 use Rattle.paper.specs.Transmission.{alignment_field, buffer_size, is_first, is_last, packet_length, host_words, good_a, sizes_agree}
 use Rattle.paper.specs.Refusals.{expect_in_range, in_range}

@@ -14,7 +14,7 @@ use Rattle.paper.specs.declared.Refusal.TheVariants.{BadValue, NotNow}
 use Rattle.paper.specs.declared.Expect.TheVariants.{CommandA}
 use Rattle.paper.specs.declared.Packet.TheVariants.{Closed}
 use Rattle.paper.specs.Words.{bit}
-use Rattle.paper.specs.Memory.{TxData}
+use Rattle.paper.specs.declared.Fifo.TheVariants.{TxData}
 use Rattle.paper.specs.Registers.{TXEN, RXEN, good_n, good_maccr, good_addrh, good_registers, with_n, is_idle, expects_first, may_resize, may_dump_rx, may_dump_tx_data}
 use Rattle.paper.specs.Fresh.{fresh_registers, fresh_port}
 use Rattle.paper.specs.Calls.{Reset, SetSplit, DumpTxData, DumpTxStatus, DumpRx}

@@ -3,7 +3,7 @@
 --   kept_send             a sending keeps the invariant
 --   sends_of              its answer and the frame sent
 -- Assumes nothing.
-use Rattle.std.specs.Prelude.{if◌then◌else◌}
+use Rattle.std.specs.Prelude.{if◌then◌else◌, Err, Ok}
 use mathlib.Core.Path.{◌≡◌, refl, sym, ap, subst, ◌∙◌}
 use mathlib.Core.Bool.{Bool, true, false, not}
 use mathlib.Core.List.{List, [], ◌∷◌}
@@ -15,9 +15,10 @@ use borrow.Author.Tests.{leb-false, eq-eqb, ne_eqb}
 use Rattle.paper.specs.declared.Control.{Control}
 use Rattle.paper.specs.declared.Refusal.{Refusal}
 use Rattle.paper.specs.declared.Refusal.TheVariants.{SendingOff, OtherBits, NothingThere, StatusFull, OutShort}
-use Rattle.paper.specs.declared.Answer.TheVariants.{Value, Refused}
 use Rattle.paper.specs.Words.{bit}
-use Rattle.paper.specs.Memory.{Fifo, TxData, TxStatus, RxData, RxStatus, size, keeps, puts, takes, of}
+use Rattle.paper.specs.declared.Fifo.{Fifo}
+use Rattle.paper.specs.declared.Fifo.TheVariants.{TxData, TxStatus, RxData, RxStatus}
+use Rattle.paper.specs.Memory.{size, keeps, puts, takes, of}
 use Rattle.paper.specs.Registers.{TXEN}
 use Rattle.paper.specs.Sending.{head_of, frame_of, out_after, good_outcome, tx_status, shortest_out}
 use Rattle.paper.specs.Calls.{Send}
@@ -43,7 +44,7 @@ accepts p outcome k =
       control = with_port (record { expect = k.port.expect; failed = k.port.failed; whole = k.port.whole - 1 }) k;
       changes = record { txdata = takes (length (laid p)); txstatus = puts (tx_status p.b outcome ∷ []); rxdata = keeps; rxstatus = keeps };
       sent = frame_of p.b (packet_bytes p);
-      answer = Value (length (frame_of p.b (packet_bytes p)));
+      answer = Ok (length (frame_of p.b (packet_bytes p)));
     }
 
 -- by the packets not sent and the statuses waiting
@@ -165,10 +166,10 @@ send_answers l outcome out_length = simp (answer_choice, by_unsent (unsent l))
 
 -- what the act a sends, where it answers a value, is the frame of the packet p
 abbrev Sent : Whole → Act → Type 0
-Sent p a = (n : ℕ) → a.answer ≡ Value n → a.sent ≡ frame_of p.b (packet_bytes p)
+Sent p a = (n : ℕ) → a.answer ≡ Ok n → a.sent ≡ frame_of p.b (packet_bytes p)
 
 -- A refusal is no value.
-refused_no_value : {P : Type 0} {r : Refusal} {n : ℕ} → Refused r ≡ Value n → P
+refused_no_value : {P : Type 0} {r : Refusal} {n : ℕ} → Err r ≡ Ok n → P
 refused_no_value e = absurd (let z : ◌≡◌ {A = ℕ} 0 1 = cc in omega arith)
 
 -- A sending sends the oldest packet that is not sent.

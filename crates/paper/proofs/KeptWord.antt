@@ -3,7 +3,7 @@
 --   note_word             what the ledger notes of a word written
 --   kept_tx_word          after a word written to the port the world is as the ledger says
 -- Assumes nothing.
-use Rattle.std.specs.Prelude.{if◌then◌else◌}
+use Rattle.std.specs.Prelude.{if◌then◌else◌, Err, Ok}
 use mathlib.Core.Path.{◌≡◌, refl, sym, ap, subst, ◌∙◌}
 use mathlib.Core.Bool.{Bool, true, false, not, ◌&&◌}
 use mathlib.Core.List.{List, [], ◌∷◌, ◌++◌, append-nil}
@@ -15,9 +15,9 @@ use lib.ListN.{length, length-append}
 use borrow.Author.Tests.{ltb-true, not-false}
 use Rattle.paper.specs.declared.Ring.{Ring}
 use Rattle.paper.specs.declared.Refusal.TheVariants.{BadCommand, Disagrees}
-use Rattle.paper.specs.declared.Answer.{Answer}
-use Rattle.paper.specs.declared.Answer.TheVariants.{Value, Refused}
-use Rattle.paper.specs.Memory.{TxData, TxStatus, RxData, RxStatus, size, Change, keeps, puts}
+use Rattle.paper.specs.Answers.{Answer}
+use Rattle.paper.specs.declared.Fifo.TheVariants.{TxData, TxStatus, RxData, RxStatus}
+use Rattle.paper.specs.Memory.{size, Change, keeps, puts}
 use Rattle.paper.specs.Transmission.{host_words, good_a, good_length, repeats, sizes_agree, is_stored, Turn}
 use Rattle.paper.specs.Transmission.{takes_a, takes_b, takes_payload, takes_expected, port_takes}
 use Rattle.paper.specs.Calls.{TxWord}
@@ -116,8 +116,8 @@ turned free w x good = by_error x.failed good
 -- What the ledger notes of a word written is what was written after it.
 pub note_word : (w : ℕ) (a : Answer) (l : Ledger) → note (TxWord w) a l ≡ with_wrote (wrote_after w a l.wrote) l
 unfolding note entered
-note_word w (Value v) l = refl
-note_word w (Refused r) l = either (sets_error r)
+note_word w (Ok v) l = refl
+note_word w (Err r) l = either (sets_error r)
   where
     either : (b : Bool) → (if b then with_wrote (failing l.wrote) l else l) ≡ with_wrote (if b then failing l.wrote else l.wrote) l
     either true = refl

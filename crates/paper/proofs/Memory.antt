@@ -19,7 +19,9 @@ use lib.Seq.{get_or-set_same, get_or-set_other}
 use borrow.Author.Tests.{ltb-true, ltb-false}
 use Rattle.paper.specs.declared.Ring.{Ring}
 use Rattle.paper.specs.Words.{series}
-use Rattle.paper.specs.Memory.{words_lent, Fifo, TxData, TxStatus, RxData, RxStatus, size, base, place, waiting, put_all}
+use Rattle.paper.specs.declared.Fifo.{Fifo}
+use Rattle.paper.specs.declared.Fifo.TheVariants.{TxData, TxStatus, RxData, RxStatus}
+use Rattle.paper.specs.Memory.{words_lent, size, base, place, waiting, put_all}
 use Rattle.paper.specs.Memory.{Change, keeps, puts, takes, restarts, ring_after, memory_after, waiting_after}
 use Rattle.paper.proofs.Words.{suc_across, series-length, series-append, series-drop, series_agree, series_lists}
 

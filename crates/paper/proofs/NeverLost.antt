@@ -3,7 +3,7 @@
 --   never_entry            in a world as a ledger says no call has such an answer
 -- Assumes nothing.
 use native.Mathlib.Omega.{arith}
-use Rattle.std.specs.Prelude.{if◌then◌else◌, ◌&&◌, not, ltb}
+use Rattle.std.specs.Prelude.{if◌then◌else◌, ◌&&◌, not, ltb, Err, Ok}
 use mathlib.Core.Path.{◌≡◌, refl, ap, ◌∙◌}
 use mathlib.Core.Bool.{Bool, false}
 use mathlib.Core.List.{List, [], ◌∷◌}
@@ -13,14 +13,13 @@ use lib.ListN.{length, drop}
 use Rattle.paper.specs.declared.Registers.{Registers}
 use Rattle.paper.specs.declared.Port.{Port}
 use Rattle.paper.specs.declared.Control.{Control}
-use Rattle.paper.specs.declared.Answer.{Answer}
-use Rattle.paper.specs.declared.Answer.TheVariants.{Value, Refused}
-use Rattle.paper.specs.declared.Arrival.{Arrival}
+use Rattle.paper.specs.Answers.{Answer}
 use Rattle.paper.specs.declared.Room.{Room}
 use Rattle.paper.specs.declared.Room.TheVariants.{Fits, Short}
-use Rattle.paper.specs.Memory.{Four, Change, TxStatus, size}
+use Rattle.paper.specs.declared.Fifo.TheVariants.{TxStatus}
+use Rattle.paper.specs.Memory.{Four, Change, size}
 use Rattle.paper.specs.Status.{Look, look, kept}
-use Rattle.paper.specs.Arrivals.{refuses_length, good_flags, discards, arrival, room, by_room, arrival_answer, data_words}
+use Rattle.paper.specs.Arrivals.{Verdict, refuses_length, good_flags, discards, arrival, room, by_room, arrival_answer, data_words}
 use Rattle.paper.specs.Transmission.{Turn, takes_a, takes_b, takes_payload, takes_expected, port_takes}
 use Rattle.paper.specs.Refusals.{number}
 use Rattle.paper.specs.Calls.{Call, Reset, MacWrite, MacRead, SetSplit, Split, RxFifoInf, TxFifoInf, RxDrop, DumpTxData, DumpTxStatus, DumpRx, Arrive, RxDataRead, RxStatusPop, RxStatusPeek, TxWord, Send, TxStatusPop, TxStatusPeek}
@@ -40,8 +39,8 @@ use Rattle.paper.proofs.KeptRange.{kept_act}
 use Rattle.paper.proofs.KeptSend.{sends_of}
 
 abbrev pub is_entry : Answer → Bool
-is_entry (Value v) = false
-is_entry (Refused r) = leb 14 (number r)
+is_entry (Ok v) = false
+is_entry (Err r) = leb 14 (number r)
 
 abbrev Plain : Answer → Type 0
 Plain a = is_entry a ≡ false
@@ -65,13 +64,13 @@ arrival_plain r words statuses l =
     (choose (discards r l) _ _ refl
     (choose (not (passes r l.head) && not (bit RXALL r.maccr)) _ _ refl (by_room_lem (room (kept l) words statuses))))))
   where
-    P : Arrival → Type 0
+    P : Verdict → Type 0
     P a = Plain (arrival_answer a)
 
-    choose : (b : Bool) (x y : Arrival) → P x → P y → P (if b then x else y)
+    choose : (b : Bool) (x y : Verdict) → P x → P y → P (if b then x else y)
     choose b x y p q = if_cases P b (λ _. p) (λ _. q)
 
-    by_room_lem : (x : Room) → P (by_room x)
+    by_room_lem : (x : Room) → P (Ok (by_room x))
     by_room_lem Fits = refl
     by_room_lem Short = refl
 

@@ -2,6 +2,7 @@
 --   Taken whole ws stored w    after the words ws: all answered 0, one more whole packet, what is stored laid behind what waited, the world in range
 --   packet_taken               so it is with the words of a good packet
 -- Assumes nothing.
+use Rattle.std.specs.Prelude.{Ok}
 use mathlib.Core.Path.{◌≡◌, refl, ap, ◌∙◌}
 use mathlib.Core.Bool.{true, false}
 use mathlib.Core.List.{List, ◌++◌, append_assoc, map}
@@ -13,8 +14,8 @@ use Rattle.paper.specs.declared.Expect.{Expect}
 use Rattle.paper.specs.declared.Expect.TheVariants.{CommandA}
 use Rattle.paper.specs.declared.Port.{Port}
 use Rattle.paper.specs.declared.Control.{Control}
-use Rattle.paper.specs.declared.Answer.TheVariants.{Value}
-use Rattle.paper.specs.Memory.{TxData, Four, size, words_lent}
+use Rattle.paper.specs.declared.Fifo.TheVariants.{TxData}
+use Rattle.paper.specs.Memory.{Four, size, words_lent}
 use Rattle.paper.specs.Refusals.{expect_in_range, in_range}
 use Rattle.paper.specs.Calls.{TxWord}
 use Rattle.paper.specs.Acts.{with_port}
@@ -31,7 +32,7 @@ use Rattle.paper.proofs.WordTaken.{laid_behind, Able, data_count, word_answer, w
 
 -- the words ws, of which stored are to be stored, are all taken in the world w, and make one packet more than whole
 pub record Taken (whole : ℕ) (ws stored : List ℕ) (w : World) : Type 0 where
-  pub answered : answers (map TxWord ws) w ≡ replicate (length ws) (Value 0)
+  pub answered : answers (map TxWord ws) w ≡ replicate (length ws) (Ok 0)
   pub control : (world_after (map TxWord ws) w).state.control ≡ with_port (clear (CommandA Closed) (whole + 1)) w.state.control
   pub waiting : waits (world_after (map TxWord ws) w) ≡ laid_behind (waits w) stored
   pub lent : length (world_after (map TxWord ws) w).memory ≡ words_lent

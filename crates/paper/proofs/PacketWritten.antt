@@ -3,6 +3,7 @@
 --   packet_writes         the words of a good packet are accepted one after the other
 --   packet_fed            what feeding them to a port gives
 -- Assumes nothing.
+use Rattle.std.specs.Prelude.{Ok}
 use mathlib.Core.Path.{◌≡◌, ap, ◌∙◌}
 use mathlib.Core.Bool.{Bool, true, false, not, ◌&&◌}
 use mathlib.Core.List.{List, [], ◌∷◌, ◌++◌, append-nil}
@@ -16,8 +17,7 @@ use Rattle.paper.specs.declared.Packet.TheVariants.{Closed, Known}
 use Rattle.paper.specs.declared.Expect.{Expect}
 use Rattle.paper.specs.declared.Expect.TheVariants.{CommandA, Payload}
 use Rattle.paper.specs.declared.Port.{Port}
-use Rattle.paper.specs.declared.Answer.{Answer}
-use Rattle.paper.specs.declared.Answer.TheVariants.{Value}
+use Rattle.paper.specs.Answers.{Answer}
 use Rattle.paper.specs.Memory.{Change, keeps, puts, takes, restarts}
 use Rattle.paper.specs.Transmission.{alignment_field, buffer_size, is_first, is_last, packet_length, host_words, good_a, good_length}
 use Rattle.paper.specs.Transmission.{is_open, port_takes}
@@ -146,7 +146,7 @@ packet_writes whole p good = all_write whole p.b good.long good.ended
 
 -- what it gives to feed a port with words that are all accepted, of which the last makes a packet whole
 abbrev accepted : (whole : ℕ) (ws stored : List ℕ) → Fed
-accepted whole ws stored = record { port = clear (CommandA Closed) (whole + 1); stored = stored; answers = replicate (length ws) (Value 0) }
+accepted whole ws stored = record { port = clear (CommandA Closed) (whole + 1); stored = stored; answers = replicate (length ws) (Ok 0) }
 
 -- A port that is fed with accepted words accepts them, where there is room for what is stored.
 fed : {whole : ℕ} {e : Expect} {ws stored : List ℕ} (room : ℕ) → Writes whole e ws stored → length stored ≤ room
@@ -163,7 +163,7 @@ pub packet_fed : (p : Whole) (port : Port) (room : ℕ) → GoodWhole p → port
     ≡ record {
       port = record { expect = CommandA Closed; failed = false; whole = port.whole + 1 };
       stored = laid p;
-      answers = replicate (length (host_writes p)) (Value 0);
+      answers = replicate (length (host_writes p)) (Ok 0);
     }
 packet_fed p port room good e f h =
     let same : port ≡ clear (CommandA Closed) port.whole = λ i. record { expect = e i; failed = f i; whole = port.whole } in

@@ -11,8 +11,9 @@ use native.Mathlib.Omega.{arith}
 use lib.ListN.{length, get_or, drop}
 use lib.Seq.{get_or-drop}
 use Rattle.paper.specs.declared.Ring.{Ring}
-use Rattle.paper.specs.declared.Answer.{Answer}
-use Rattle.paper.specs.Memory.{Fifo, size, base, place, waiting, Four}
+use Rattle.paper.specs.Answers.{Answer}
+use Rattle.paper.specs.declared.Fifo.{Fifo}
+use Rattle.paper.specs.Memory.{size, base, place, waiting, Four}
 use Rattle.paper.specs.Calls.{Call}
 use Rattle.paper.specs.Machine.{World, answer, answers, world_after}
 use Rattle.paper.specs.Ledger.{Ledger, noted, put, taken}
@@ -20,7 +21,8 @@ use Rattle.paper.specs.Runs.{Lent, reached, ledger_of}
 use Rattle.paper.specs.Promises.{Told, Unique, NeverLost, Places, WholeOrNothing, DroppedExactly, ReadsBack, Levels, SentAsWritten, PacketAccepted}
 use Rattle.paper.proofs.Words.{series-get_or}
 use Rattle.paper.proofs.Answers.{said_one_to_one}
-use Rattle.paper.proofs.Rings.{ring, split, waits_of}
+use Rattle.paper.specs.Memory.{ring}
+use Rattle.paper.proofs.Rings.{split, waits_of}
 use Rattle.paper.proofs.Kept.{Kept, kept_fresh, kept_count}
 use Rattle.paper.proofs.KeptSend.{sends_of}
 use Rattle.paper.proofs.NeverLost.{is_entry, never_entry}

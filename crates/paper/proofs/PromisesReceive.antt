@@ -4,6 +4,7 @@
 --   whole_or_nothing_at   an arrival puts its data words and one status, or nothing
 --   dropped_exactly_at    Dropped is answered exactly when a frame is due and there is no room
 -- Assumes nothing.
+use Rattle.std.specs.Prelude.{Ok}
 use mathlib.Core.Path.{◌≡◌, refl, sym, ap, subst, ◌∙◌}
 use mathlib.Core.Logic.{◌≢◌, ◌↔◌}
 use mathlib.Core.Bool.{Bool, true, false}
@@ -14,11 +15,12 @@ use lib.Dec.{leb, eqb}
 use lib.ListN.{length, length-drop}
 use borrow.Author.Tests.{leb-true, leb-false, eq-eqb, ne_eqb}
 use Rattle.paper.specs.declared.Control.{Control}
-use Rattle.paper.specs.declared.Arrival.{Arrival}
 use Rattle.paper.specs.declared.Arrival.TheVariants.{Dropped, Stored}
-use Rattle.paper.specs.Memory.{Fifo, TxData, TxStatus, RxData, RxStatus, Four, Change, size, of, waiting_after}
+use Rattle.paper.specs.declared.Fifo.{Fifo}
+use Rattle.paper.specs.declared.Fifo.TheVariants.{TxData, TxStatus, RxData, RxStatus}
+use Rattle.paper.specs.Memory.{Four, Change, size, of, waiting_after}
 use Rattle.paper.specs.Status.{look}
-use Rattle.paper.specs.Arrivals.{data_words, arrival, arrival_answer}
+use Rattle.paper.specs.Arrivals.{Verdict, data_words, arrival, arrival_answer}
 use Rattle.paper.specs.Calls.{Arrive, Split, RxFifoInf, TxFifoInf, RxDrop, RxDataRead, RxStatusPop, RxStatusPeek, TxStatusPop, TxStatusPeek}
 use Rattle.paper.specs.Acts.{arrives, oldest}
 use Rattle.paper.specs.Machine.{World, waits, decide, apply, act, step, answer, after}
@@ -72,7 +74,7 @@ none_free room level = by_cases (leb room level) refl
     by_cases false e = ne_eqb (room - level) 0 (omega (arith, leb-false room level e))
 
 -- the line of 01 that answers an arrival in the world w
-abbrev line_of : (frame : List ℕ) (flags : ℕ) → World → Arrival
+abbrev line_of : (frame : List ℕ) (flags : ℕ) → World → Verdict
 line_of frame flags w =
     arrival w.state.control.registers
     (size RxData (split w) - length (waits w).rxdata) (size RxStatus (split w) - length (waits w).rxstatus) (look frame flags)
@@ -93,20 +95,20 @@ module _ {l : Ledger} {w : World} (h : Kept l w) (frame : List ℕ) (flags : ℕ
   line_says = arrival_says w.state.control.registers _ _ (look frame flags)
 
   -- Dropped is answered exactly when a frame is due and there is no room.
-  pub dropped_exactly_at : (answer (Arrive frame flags) w ≡ arrival_answer Dropped)
+  pub dropped_exactly_at : (answer (Arrive frame flags) w ≡ arrival_answer (Ok Dropped))
       ↔ (Due w.state.control.registers (look frame flags)
       × (lacks_room w.state.control.registers.n (length (waits w).rxdata) (length (waits w).rxstatus) (length frame) ≡ true))
   dropped_exactly_at =
       let free = none_free (size RxStatus (split w)) (length (waits w).rxstatus) in (
         λ e.
-            let line = arrival_one_to_one (line_of frame flags w) Dropped (sym line_answer ∙ e) in
+            let line = arrival_one_to_one (line_of frame flags w) (Ok Dropped) (sym line_answer ∙ e) in
             let says = subst (λ a. SaysAt a w.state.control w (look frame flags)) line line_says in
             (says.0, rw free at says.1),
         λ due. line_answer ∙ ap arrival_answer (arrival_drops w.state.control.registers _ _ (look frame flags) due.0 (rw free due.1)),
       )
 
   -- What waits after an arrival is what waited, changed as its line says.
-  line_waits : (a : Arrival) → line_of frame flags w ≡ a → (f : Fifo)
+  line_waits : (a : Verdict) → line_of frame flags w ≡ a → (f : Fifo)
       → of (waits (after (Arrive frame flags) w)) f
       ≡ waiting_after (of (arrives a w.state.control (look frame flags) (data_words frame)).changes f) (of (waits w) f)
   unfolding step
@@ -118,18 +120,18 @@ module _ {l : Ledger} {w : World} (h : Kept l w) (frame : List ℕ) (flags : ℕ
       ∙ ap (λ x. waiting_after (of (arrives x k (look frame flags) (data_words frame)).changes f) (of (waits w) f)) e
 
   -- An arrival answered Stored puts its data words and one status behind what waited; any other leaves both receive FIFOs.
-  pub whole_or_nothing_at : (answer (Arrive frame flags) w ≡ arrival_answer Stored → Keeps frame flags w)
-      × (answer (Arrive frame flags) w ≢ arrival_answer Stored → Leaves frame flags w)
+  pub whole_or_nothing_at : (answer (Arrive frame flags) w ≡ arrival_answer (Ok Stored) → Keeps frame flags w)
+      × (answer (Arrive frame flags) w ≢ arrival_answer (Ok Stored) → Leaves frame flags w)
   unfolding arrives waiting_after
   whole_or_nothing_at = (kept, left)
     where
-      kept : answer (Arrive frame flags) w ≡ arrival_answer Stored → Keeps frame flags w
+      kept : answer (Arrive frame flags) w ≡ arrival_answer (Ok Stored) → Keeps frame flags w
       kept e =
-          let line = arrival_one_to_one (line_of frame flags w) Stored (sym line_answer ∙ e) in
-          record { words = line_waits Stored line RxData; statuses = line_waits Stored line RxStatus }
+          let line = arrival_one_to_one (line_of frame flags w) (Ok Stored) (sym line_answer ∙ e) in
+          record { words = line_waits (Ok Stored) line RxData; statuses = line_waits (Ok Stored) line RxStatus }
 
-      left : answer (Arrive frame flags) w ≢ arrival_answer Stored → Leaves frame flags w
+      left : answer (Arrive frame flags) w ≢ arrival_answer (Ok Stored) → Leaves frame flags w
       left d =
-          let other : line_of frame flags w ≢ Stored = λ e. d (line_answer ∙ ap arrival_answer e) in
+          let other : line_of frame flags w ≢ Ok Stored = λ e. d (line_answer ∙ ap arrival_answer e) in
           let none = arrives_still (line_of frame flags w) w.state.control (look frame flags) (data_words frame) other in
           record { words = line_waits _ refl RxData ∙ rw none; statuses = line_waits _ refl RxStatus ∙ rw none }

@@ -1,5 +1,4 @@
 -- The four rings in the whole memory: what an act does to the words waiting, and that it leaves the world in range.
---   ring f s              the ring of FIFO f in a state
 --   waits_of              the words waiting in FIFO f, by its ring and its part of the memory
 --   put_leaves_others     a change of one FIFO leaves the words waiting in another
 --   Sound w               the memory is as long as it has to be, n is 2 to 14, and each ring is in range
@@ -14,20 +13,14 @@ use Prim.Native.Nat.{ℕ, ◌≤◌}
 use native.Mathlib.Omega.{arith}
 use lib.ListN.{length}
 use Rattle.paper.specs.declared.Ring.{Ring}
-use Rattle.paper.specs.declared.State.{State}
-use Rattle.paper.specs.Memory.{words_lent, Fifo, TxData, TxStatus, RxData, RxStatus, size, base, of, waiting}
+use Rattle.paper.specs.declared.Fifo.{Fifo}
+use Rattle.paper.specs.declared.Fifo.TheVariants.{TxData, TxStatus, RxData, RxStatus}
+use Rattle.paper.specs.Memory.{words_lent, ring, size, base, of, waiting}
 use Rattle.paper.specs.Memory.{Change, keeps, restarts, ring_after, memory_after, waiting_after}
 use Rattle.paper.specs.Acts.{Act, unchanged, restarted}
 use Rattle.paper.specs.Machine.{World, waits, apply}
 use Rattle.paper.proofs.Memory.{InRing, Fits, size_positive, within, apart, waiting_none}
 use Rattle.paper.proofs.Memory.{change_length, change_in_ring, change_waiting, change_elsewhere}
-
--- the ring of a FIFO
-abbrev pub ring : Fifo → State → Ring
-ring TxData s = s.txdata
-ring TxStatus s = s.txstatus
-ring RxData s = s.rxdata
-ring RxStatus s = s.rxstatus
 
 -- n, TX_FIF_SZ, of a world
 abbrev pub split : World → ℕ

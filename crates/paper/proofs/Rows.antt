@@ -3,7 +3,7 @@
 --   twelve_rows           the two columns are equal
 -- Rows 7 to 11 go by the rule for arrivals: the answer's number, then the status put, if one is.
 -- Assumes nothing.
-use Rattle.std.specs.Prelude.{if◌then◌else◌}
+use Rattle.std.specs.Prelude.{if◌then◌else◌, None}
 use mathlib.Core.Path.{◌≡◌, refl}
 use mathlib.Core.Bool.{Bool, true, false, ◌&&◌, ◌||◌}
 use mathlib.Core.List.{List, [], ◌∷◌, ◌++◌, map}
@@ -11,11 +11,10 @@ use Prim.Native.Nat.{ℕ, ◌+◌, ◌/◌, ◌%◌, ◌^◌}
 use lib.Dec.{eqb}
 use lib.ListN.{length, replicate}
 use Rattle.paper.specs.declared.Rule.TheVariants.{Equal, NotEqual, Hash, Pass}
-use Rattle.paper.specs.declared.Setting.{Setting}
-use Rattle.paper.specs.declared.Setting.TheVariants.{Undefined, Defined}
 use Rattle.paper.specs.Words.{series}
-use Rattle.paper.specs.Memory.{size, TxData, TxStatus, RxData, RxStatus}
-use Rattle.paper.specs.Registers.{RXALL, PASSBAD, settings, is_defined}
+use Rattle.paper.specs.declared.Fifo.TheVariants.{TxData, TxStatus, RxData, RxStatus}
+use Rattle.paper.specs.Memory.{size}
+use Rattle.paper.specs.Registers.{RXALL, PASSBAD, Setting, defined, settings, is_defined}
 use Rattle.paper.specs.Filter.{ours}
 use Rattle.paper.specs.Transmission.{host_words, stored_words, front_words, behind_words}
 use Rattle.paper.specs.Sending.{tx_status}
@@ -105,13 +104,13 @@ pub record Line : Type 0 where
 
 pub printed_lines : List Line
 printed_lines =
-    record { marks = 0 ∷ 0 ∷ 0 ∷ 0 ∷ 0 ∷ []; rules = Defined Equal Equal }
-    ∷ record { marks = 0 ∷ 0 ∷ 0 ∷ 0 ∷ 1 ∷ []; rules = Defined Hash Equal }
-    ∷ record { marks = 0 ∷ 0 ∷ 0 ∷ 1 ∷ 1 ∷ []; rules = Defined Hash Hash }
-    ∷ record { marks = 0 ∷ 0 ∷ 1 ∷ 0 ∷ 0 ∷ []; rules = Defined NotEqual NotEqual }
-    ∷ record { marks = 2 ∷ 1 ∷ 0 ∷ 2 ∷ 2 ∷ []; rules = Defined Pass Pass }
-    ∷ record { marks = 1 ∷ 0 ∷ 0 ∷ 0 ∷ 2 ∷ []; rules = Defined Pass Equal }
-    ∷ record { marks = 1 ∷ 0 ∷ 0 ∷ 1 ∷ 1 ∷ []; rules = Defined Pass Hash }
+    record { marks = 0 ∷ 0 ∷ 0 ∷ 0 ∷ 0 ∷ []; rules = defined Equal Equal }
+    ∷ record { marks = 0 ∷ 0 ∷ 0 ∷ 0 ∷ 1 ∷ []; rules = defined Hash Equal }
+    ∷ record { marks = 0 ∷ 0 ∷ 0 ∷ 1 ∷ 1 ∷ []; rules = defined Hash Hash }
+    ∷ record { marks = 0 ∷ 0 ∷ 1 ∷ 0 ∷ 0 ∷ []; rules = defined NotEqual NotEqual }
+    ∷ record { marks = 2 ∷ 1 ∷ 0 ∷ 2 ∷ 2 ∷ []; rules = defined Pass Pass }
+    ∷ record { marks = 1 ∷ 0 ∷ 0 ∷ 0 ∷ 2 ∷ []; rules = defined Pass Equal }
+    ∷ record { marks = 1 ∷ 0 ∷ 0 ∷ 1 ∷ 1 ∷ []; rules = defined Pass Hash }
     ∷ []
 
 -- the five digits of a setting's number
@@ -125,7 +124,7 @@ meets (m ∷ ms) [] = false
 meets (m ∷ ms) (d ∷ ds) = (eqb m 2 || eqb m d) && meets ms ds
 
 pub by_lines : List Line → ℕ → Setting
-by_lines [] k = Undefined
+by_lines [] k = None
 by_lines (l ∷ ls) k = if meets l.marks (digits k) then l.rules else by_lines ls k
 
 -- Is the table of 32 settings 01's table of seven lines?

@@ -12,7 +12,7 @@ use mathlib.Core.Bool.{true, false}
 use mathlib.Core.List.{List, [], ◌∷◌, ◌++◌, map}
 use Prim.Native.Nat.{ℕ, ◌+◌, ◌*◌, ◌/◌, ◌%◌, ◌^◌}
 use lib.ListN.{replicate, take}
-use Rattle.paper.specs.declared.Answer.{Answer}
+use Rattle.paper.specs.Answers.{Answer}
 use Rattle.paper.specs.declared.Registers.{Registers}
 use Rattle.paper.specs.declared.Control.{Control}
 use Rattle.paper.specs.Memory.{words_lent, Change, keeps, puts, takes, restarts}

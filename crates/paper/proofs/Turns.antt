@@ -5,7 +5,7 @@
 --   Lays, Turned          what a change puts behind the words laid; what a turn keeps to
 --   turned                every turn keeps to it
 -- Assumes nothing.
-use Rattle.std.specs.Prelude.{if◌then◌else◌}
+use Rattle.std.specs.Prelude.{if◌then◌else◌, Err, Ok}
 use mathlib.Core.Path.{◌≡◌, refl, sym, ap, ◌∙◌}
 use mathlib.Core.Bool.{Bool, true, false}
 use mathlib.Core.List.{List, [], ◌∷◌, ◌++◌, append_assoc}
@@ -14,8 +14,7 @@ use lib.ListN.{length, take}
 use Rattle.paper.specs.declared.Expect.{Expect}
 use Rattle.paper.specs.declared.Refusal.{Refusal}
 use Rattle.paper.specs.declared.Refusal.TheVariants.{ErrorStands, DataFull}
-use Rattle.paper.specs.declared.Answer.{Answer}
-use Rattle.paper.specs.declared.Answer.TheVariants.{Value, Refused}
+use Rattle.paper.specs.Answers.{Answer}
 use Rattle.paper.specs.Memory.{Change, keeps, puts}
 use Rattle.paper.specs.Transmission.{Turn, fails, moves, stores}
 use Rattle.paper.specs.Ledger.{Taking, Wrote, laid_all, laid_so_far}
@@ -30,8 +29,8 @@ abbrev pub failing : Wrote → Wrote
 failing x = record { packets = x.packets; taking = x.taking; sent = x.sent; failed = true }
 
 abbrev pub wrote_after : (w : ℕ) → Answer → Wrote → Wrote
-wrote_after w (Value v) x = wrote_word w x.taking x
-wrote_after w (Refused r) x = if sets_error r then failing x else x
+wrote_after w (Ok v) x = wrote_word w x.taking x
+wrote_after w (Err r) x = if sets_error r then failing x else x
 
 pub record GoodWrote (x : Wrote) : Type 0 where
   pub packets : AllGood x.packets
@@ -61,7 +60,7 @@ lays_behind ws (lays_one {before = before} w f e) = lays_one w f (ap (λ s. ws +
 
 module _ (free : Bool) (w : ℕ) (x : Wrote) (good : GoodWrote x) where
   -- While an error stands, nothing is done.
-  pub stands : TurnsTo free w x (record { port = port_of x; change = keeps; answer = Refused ErrorStands })
+  pub stands : TurnsTo free w x (record { port = port_of x; change = keeps; answer = Err ErrorStands })
   stands = record { port = refl; lays = lays_none refl; good = good; taken = refl }
 
   -- A refusal that sets the error sets it in what was written.

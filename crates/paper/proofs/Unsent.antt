@@ -11,7 +11,7 @@ use Prim.Native.Nat.{ℕ, ◌+◌, ◌-◌, ◌≤◌}
 use native.Mathlib.Omega.{arith}
 use lib.ListN.{length, take, drop, length-append, length-drop, take-append-drop}
 use lib.Seq.{take-add, drop-append_seam}
-use Rattle.paper.specs.Memory.{TxData}
+use Rattle.paper.specs.declared.Fifo.TheVariants.{TxData}
 use Rattle.paper.specs.Sending.{Found, head_of}
 use Rattle.paper.specs.Machine.{World, waits}
 use Rattle.paper.specs.Ledger.{Whole, Ledger, laid, laid_all, laid_so_far, put, taken}

@@ -3,6 +3,7 @@
 --   Able w e whole         the world w is in range, and its port expects e, with no error
 --   word_answer, word_control, word_waits, word_able    the answer, the control state and the words waiting after it; the world after it is in range
 -- Assumes nothing.
+use Rattle.std.specs.Prelude.{Ok}
 use mathlib.Core.Path.{◌≡◌, refl, sym, ap, ◌∙◌}
 use mathlib.Core.Bool.{true}
 use mathlib.Core.List.{List, [], ◌∷◌, ◌++◌, append-nil}
@@ -15,8 +16,9 @@ use Rattle.paper.specs.declared.Expect.{Expect}
 use Rattle.paper.specs.declared.Ring.{Ring}
 use Rattle.paper.specs.declared.Port.{Port}
 use Rattle.paper.specs.declared.Control.{Control}
-use Rattle.paper.specs.declared.Answer.TheVariants.{Value}
-use Rattle.paper.specs.Memory.{Fifo, TxData, TxStatus, RxData, RxStatus, Four, size, of, words_lent, Change, keeps, puts, ring_after, waiting_after}
+use Rattle.paper.specs.declared.Fifo.{Fifo}
+use Rattle.paper.specs.declared.Fifo.TheVariants.{TxData, TxStatus, RxData, RxStatus}
+use Rattle.paper.specs.Memory.{Four, size, of, words_lent, Change, keeps, puts, ring_after, waiting_after}
 use Rattle.paper.specs.Transmission.{moves, port_takes}
 use Rattle.paper.specs.Refusals.{expect_in_range}
 use Rattle.paper.specs.Calls.{TxWord}
@@ -68,7 +70,7 @@ accepting k e whole new =
       control = with_port (clear e whole) k;
       changes = record { txdata = laying new; txstatus = keeps; rxdata = keeps; rxstatus = keeps };
       sent = [];
-      answer = Value 0;
+      answer = Ok 0;
     }
 
 -- a world in range, whose port has no error
@@ -163,6 +165,6 @@ module _ {w : World} {e e' : Expect} {whole whole' word : ℕ} {new : List ℕ} 
   word_control = rw word_act
 
   -- Its answer.
-  pub word_answer : answer (TxWord word) w ≡ Value 0
+  pub word_answer : answer (TxWord word) w ≡ Ok 0
   unfolding step
   word_answer = ap (λ (a : Act). a.answer) word_act

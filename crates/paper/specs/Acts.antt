@@ -4,23 +4,22 @@
 --   does, refuses         an act that sends nothing and answers a value; one that refuses and changes nothing
 --   mac_write .. send     the act of each call that has more than one case; levels are the words waiting in each FIFO
 -- Assumes nothing.
-use Rattle.std.specs.Prelude.{if◌then◌else◌, not, List, [], ◌∷◌, ℕ, ◌-◌, ltb, leb, eqb, length}
+use Rattle.std.specs.Prelude.{if◌then◌else◌, not, List, [], ◌∷◌, ℕ, ◌-◌, ltb, leb, eqb, length, Err, Ok}
 use Rattle.paper.specs.declared.Registers.{Registers}
 use Rattle.paper.specs.declared.Port.{Port}
 use Rattle.paper.specs.declared.Control.{Control}
 use Rattle.paper.specs.declared.Refusal.{Refusal}
 use Rattle.paper.specs.declared.Refusal.TheVariants.{NoRegister, BadValue, NotNow, SendingOff, OtherBits, NothingThere, StatusFull, OutShort, OutOfRange}
-use Rattle.paper.specs.declared.Answer.{Answer}
-use Rattle.paper.specs.declared.Answer.TheVariants.{Value, Refused}
-use Rattle.paper.specs.declared.Arrival.{Arrival}
-use Rattle.paper.specs.declared.Arrival.TheVariants.{Refused as RefusedArrival, Ignored, Discarded, Filtered, Dropped, Stored}
+use Rattle.paper.specs.Answers.{Answer}
+use Rattle.paper.specs.declared.Arrival.TheVariants.{Ignored, Discarded, Filtered, Dropped, Stored}
 use Rattle.paper.specs.Words.{bit}
-use Rattle.paper.specs.Memory.{TxData, TxStatus, RxData, RxStatus, Four, size, Change, keeps, puts, takes, restarts}
+use Rattle.paper.specs.declared.Fifo.TheVariants.{TxData, TxStatus, RxData, RxStatus}
+use Rattle.paper.specs.Memory.{Four, size, Change, keeps, puts, takes, restarts}
 use Rattle.paper.specs.Registers.{TXEN, is_register, good_value, read_register, write_register, good_n, one_more, with_drops, with_n, may_resize, may_dump_tx_data, may_dump_rx}
 use Rattle.paper.specs.Fresh.{fresh_port}
 use Rattle.paper.specs.Filter.{passes}
 use Rattle.paper.specs.Status.{Look, longest, status}
-use Rattle.paper.specs.Arrivals.{arrival, arrival_answer}
+use Rattle.paper.specs.Arrivals.{Verdict, arrival, arrival_answer}
 use Rattle.paper.specs.Transmission.{port_takes}
 use Rattle.paper.specs.Sending.{Head, NoPacket, Found, head_of, sent_bytes, freed, frame_of, good_outcome, tx_status, shortest_out}
 
@@ -38,11 +37,11 @@ restarted = record { txdata = restarts; txstatus = restarts; rxdata = restarts; 
 
 -- a call that sends nothing: control state, changes, value
 abbrev pub does : Control → Four Change → (value : ℕ) → Act
-does k c v = record { control = k; changes = c; sent = []; answer = Value v }
+does k c v = record { control = k; changes = c; sent = []; answer = Ok v }
 
 -- 01: "A refusal returns value 0 and changes no memory and no state"
 abbrev pub refuses : Refusal → Control → Act
-refuses r k = record { control = k; changes = unchanged; sent = []; answer = Refused r }
+refuses r k = record { control = k; changes = unchanged; sent = []; answer = Err r }
 
 abbrev pub with_registers : Registers → Control → Control
 with_registers r k = record { registers = r; port = k.port }
@@ -83,14 +82,14 @@ dump_rx k =
 
 -- 01, line 6: "Dropped, RX_DROP plus one and no other change"; line 7: "Stored: data words …; one status"; "Ignored, Discarded and Filtered change nothing."
 -- What an arrival does. The rule sees a look and levels; the frame's content is in words alone.
-unfoldable pub arrives : Arrival → Control → Look → (words : List ℕ) → Act
-arrives (RefusedArrival r) k l words = refuses r k
-arrives Ignored k l words = record { control = k; changes = unchanged; sent = []; answer = arrival_answer Ignored }
-arrives Discarded k l words = record { control = k; changes = unchanged; sent = []; answer = arrival_answer Discarded }
-arrives Filtered k l words = record { control = k; changes = unchanged; sent = []; answer = arrival_answer Filtered }
-arrives Dropped k l words =
-    record { control = with_registers (with_drops (one_more k.registers.drops) k.registers) k; changes = unchanged; sent = []; answer = arrival_answer Dropped }
-arrives Stored k l words =
+unfoldable pub arrives : Verdict → Control → Look → (words : List ℕ) → Act
+arrives (Err r) k l words = refuses r k
+arrives (Ok Ignored) k l words = record { control = k; changes = unchanged; sent = []; answer = arrival_answer (Ok Ignored) }
+arrives (Ok Discarded) k l words = record { control = k; changes = unchanged; sent = []; answer = arrival_answer (Ok Discarded) }
+arrives (Ok Filtered) k l words = record { control = k; changes = unchanged; sent = []; answer = arrival_answer (Ok Filtered) }
+arrives (Ok Dropped) k l words =
+    record { control = with_registers (with_drops (one_more k.registers.drops) k.registers) k; changes = unchanged; sent = []; answer = arrival_answer (Ok Dropped) }
+arrives (Ok Stored) k l words =
     record {
       control = k;
       changes =
@@ -101,7 +100,7 @@ arrives Stored k l words =
             rxstatus = puts (status longest (not (passes k.registers l.head)) l ∷ []);
           };
       sent = [];
-      answer = arrival_answer Stored;
+      answer = arrival_answer (Ok Stored);
     }
 
 abbrev pub arrive : Control → Four ℕ → Look → (words : List ℕ) → Act
@@ -137,7 +136,7 @@ sends (Found b buffers) outcome out statuses whole k =
       control = with_port (record { expect = k.port.expect; failed = k.port.failed; whole = whole }) k;
       changes = record { txdata = takes (freed buffers); txstatus = puts (tx_status b outcome ∷ []); rxdata = keeps; rxstatus = keeps };
       sent = frame_of b (sent_bytes buffers);
-      answer = Value (length (frame_of b (sent_bytes buffers)));
+      answer = Ok (length (frame_of b (sent_bytes buffers)));
     }
 
 -- 01: "sending 10, 2, 11, 15 (head), 12, 13"

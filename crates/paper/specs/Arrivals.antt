@@ -3,23 +3,28 @@
 --   data_words frame       the frame's data words
 --   room                   whether these and one status are free
 --   refuses_length, discards    the tests of lines 1 and 4
+--   Verdict                what an arriving frame meets: a line, or a refusal
 --   arrival                the first line that applies
---   arrival_answer         01's refusal number or value for each answer to an arrival
+--   line, arrival_answer   01's value for a line; the answer to an arrival
 -- Differs from 000: full means full (DECISIONS 12).
 -- Assumes nothing.
-use Rattle.std.specs.Prelude.{if◌then◌else◌, Bool, not, ◌&&◌, ◌||◌, List, [], ◌∷◌, ℕ, ◌+◌, ◌*◌, ◌/◌, ltb, eqb, length}
+use Rattle.std.specs.Prelude.{if◌then◌else◌, Bool, not, ◌&&◌, ◌||◌, List, [], ◌∷◌, ℕ, ◌+◌, ◌*◌, ◌/◌, ltb, eqb, length, Result, Err, Ok}
 use Rattle.paper.specs.declared.Registers.{Registers}
 use Rattle.paper.specs.declared.Room.{Room}
 use Rattle.paper.specs.declared.Room.TheVariants.{Fits, Short}
+use Rattle.paper.specs.declared.Refusal.{Refusal}
 use Rattle.paper.specs.declared.Refusal.TheVariants.{ArrivingLength, OtherBits}
-use Rattle.paper.specs.declared.Answer.{Answer}
-use Rattle.paper.specs.declared.Answer.TheVariants.{Value, Refused}
+use Rattle.paper.specs.Answers.{Answer}
 use Rattle.paper.specs.declared.Arrival.{Arrival}
-use Rattle.paper.specs.declared.Arrival.TheVariants.{Refused as RefusedArrival, Ignored, Discarded, Filtered, Dropped, Stored}
+use Rattle.paper.specs.declared.Arrival.TheVariants.{Ignored, Discarded, Filtered, Dropped, Stored}
 use Rattle.paper.specs.Words.{bit, only_bits, series, word_at}
 use Rattle.paper.specs.Registers.{RXEN, PASSBAD, RXALL}
 use Rattle.paper.specs.Filter.{passes}
 use Rattle.paper.specs.Status.{Look, collision, is_runt, kept}
+
+-- what an arriving frame meets: line 3 to 7, or the refusal of line 1 or 2
+abbrev pub Verdict : Type 0
+Verdict = Result Arrival Refusal
 
 -- 01, line 6: "L/4 rounded up"
 abbrev pub words_for : ℕ → ℕ
@@ -53,20 +58,23 @@ by_room Fits = Stored
 
 -- 01: "The first line that applies answers: 1. L is 0 or above 2,048: refusal 1. 2. Other flag bits: refusal 2. 3. RXEN clear: Ignored." "5. Filter says no
 -- and RXALL is clear: Filtered." words and statuses are the free RX data words and the free RX statuses.
-unfoldable pub arrival : Registers → (words statuses : ℕ) → Look → Arrival
+unfoldable pub arrival : Registers → (words statuses : ℕ) → Look → Verdict
 arrival r words statuses l =
-    if refuses_length l.len then RefusedArrival ArrivingLength else
-    if not (good_flags l.flags) then RefusedArrival OtherBits else
-    if not (bit RXEN r.maccr) then Ignored else
-    if discards r l then Discarded else
-    if not (passes r l.head) && not (bit RXALL r.maccr) then Filtered else
-    by_room (room (kept l) words statuses)
+    if refuses_length l.len then Err ArrivingLength else
+    if not (good_flags l.flags) then Err OtherBits else
+    if not (bit RXEN r.maccr) then Ok Ignored else
+    if discards r l then Ok Discarded else
+    if not (passes r l.head) && not (bit RXALL r.maccr) then Ok Filtered else
+    Ok (by_room (room (kept l) words statuses))
 
--- the value of an arrival is the number of the line that answered (DECISIONS 2)
-abbrev pub arrival_answer : Arrival → Answer
-arrival_answer (RefusedArrival r) = Refused r
-arrival_answer Ignored = Value 3
-arrival_answer Discarded = Value 4
-arrival_answer Filtered = Value 5
-arrival_answer Dropped = Value 6
-arrival_answer Stored = Value 7
+-- 01's value for the line that answered: its number (DECISIONS 2)
+abbrev pub line : Arrival → ℕ
+line Ignored = 3
+line Discarded = 4
+line Filtered = 5
+line Dropped = 6
+line Stored = 7
+
+abbrev pub arrival_answer : Verdict → Answer
+arrival_answer (Err r) = Err r
+arrival_answer (Ok a) = Ok (line a)

@@ -8,14 +8,12 @@
 --   passes r head         whether the filter says yes; no for a setting that is undefined, which no register holds
 -- Differs from 000: broadcast is judged first, in every mode (ours).
 -- Assumes nothing.
-use Rattle.std.specs.Prelude.{if◌then◌else◌, Bool, true, false, not, List, [], ◌∷◌, ℕ, ◌%◌, take, get_or, replicate}
+use Rattle.std.specs.Prelude.{if◌then◌else◌, Bool, true, false, not, List, [], ◌∷◌, ℕ, ◌%◌, take, get_or, replicate, None, Some}
 use Rattle.paper.specs.declared.Registers.{Registers}
 use Rattle.paper.specs.declared.Rule.{Rule}
 use Rattle.paper.specs.declared.Rule.TheVariants.{Equal, NotEqual, Hash, Pass}
-use Rattle.paper.specs.declared.Setting.{Setting}
-use Rattle.paper.specs.declared.Setting.TheVariants.{Undefined, Defined}
 use Rattle.paper.specs.Words.{bit, bits, same}
-use Rattle.paper.specs.Registers.{BCAST, setting_of}
+use Rattle.paper.specs.Registers.{BCAST, Setting, setting_of}
 use Rattle.paper.specs.Checksum.{hash}
 
 abbrev pub destination : List ℕ → List ℕ
@@ -45,8 +43,8 @@ passes_rule Hash r d = in_hash r d
 passes_rule Pass r d = true
 
 unfoldable pub passes_setting : Setting → Registers → List ℕ → Bool
-passes_setting Undefined r head = false
-passes_setting (Defined group individual) r head = passes_rule (if is_group head then group else individual) r (destination head)
+passes_setting None r head = false
+passes_setting (Some rules) r head = passes_rule (if is_group head then rules.group else rules.individual) r (destination head)
 
 -- 01: "Destination FFFFFFFFFFFFh passes exactly when BCAST is clear, in every mode (ours). Otherwise, by (MCPAS, PRMS, INVFILT, HO, HPFILT)"
 unfoldable pub passes : Registers → List ℕ → Bool

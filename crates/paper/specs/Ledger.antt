@@ -12,13 +12,13 @@
 --   laid p, laid_so_far t    the words of a packet that TX data keeps
 --   put f l, taken f l    the words put into FIFO f since its restart, oldest first, and how many of them were taken since
 -- Assumes nothing.
-use Rattle.std.specs.Prelude.{if◌then◌else◌, Bool, true, false, not, ◌&&◌, List, [], ◌∷◌, ◌++◌, map, ℕ, ◌+◌, ltb, leb, eqb, length, take, drop}
+use Rattle.std.specs.Prelude.{if◌then◌else◌, Bool, true, false, not, ◌&&◌, List, [], ◌∷◌, ◌++◌, map, ℕ, ◌+◌, ltb, leb, eqb, length, take, drop, Err, Ok}
 use Rattle.paper.specs.declared.Registers.{Registers}
 use Rattle.paper.specs.declared.Refusal.{Refusal}
-use Rattle.paper.specs.declared.Answer.{Answer}
-use Rattle.paper.specs.declared.Answer.TheVariants.{Value, Refused}
+use Rattle.paper.specs.Answers.{Answer}
 use Rattle.paper.specs.Words.{bytes_of}
-use Rattle.paper.specs.Memory.{Fifo, TxData, TxStatus, RxData, RxStatus}
+use Rattle.paper.specs.declared.Fifo.{Fifo}
+use Rattle.paper.specs.declared.Fifo.TheVariants.{TxData, TxStatus, RxData, RxStatus}
 use Rattle.paper.specs.Registers.{write_register, with_n}
 use Rattle.paper.specs.Fresh.{fresh_registers}
 use Rattle.paper.specs.Filter.{passes}
@@ -204,8 +204,8 @@ abbrev pub sets_error : Refusal → Bool
 sets_error r = leb 7 (number r) && leb (number r) 9
 
 unfoldable pub note : Call → Answer → Ledger → Ledger
-note c (Value v) l = entered c v l
-note c (Refused r) l =
+note c (Ok v) l = entered c v l
+note c (Err r) l =
     if sets_error r then with_wrote (record { packets = l.wrote.packets; taking = l.wrote.taking; sent = l.wrote.sent; failed = true }) l else l
 
 unfoldable pub noted : List Call → List Answer → Ledger → Ledger

@@ -1,5 +1,6 @@
 -- The definitions of paper 01, in its order where one does not need a later one. What renders a sentence of 01 stands under that sentence.
 pub mod Words
+pub mod Answers
 pub mod Memory
 pub mod Registers
 pub mod Fresh

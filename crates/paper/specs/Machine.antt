@@ -13,8 +13,9 @@ use Rattle.std.specs.Prelude.{if◌then◌else◌, not, ◌&&◌, List, [], ◌�
 use Rattle.paper.specs.declared.Control.{Control}
 use Rattle.paper.specs.declared.State.{State}
 use Rattle.paper.specs.declared.Refusal.TheVariants.{MemoryLength, OutOfRange}
-use Rattle.paper.specs.declared.Answer.{Answer}
-use Rattle.paper.specs.Memory.{TxData, TxStatus, RxData, RxStatus, Four, size, base, waiting, keeps, takes, restarts, ring_after, memory_after}
+use Rattle.paper.specs.Answers.{Answer}
+use Rattle.paper.specs.declared.Fifo.TheVariants.{TxData, TxStatus, RxData, RxStatus}
+use Rattle.paper.specs.Memory.{Four, size, base, waiting, keeps, takes, restarts, ring_after, memory_after}
 use Rattle.paper.specs.Registers.{rx_fifo_inf, tx_fifo_inf, with_drops}
 use Rattle.paper.specs.Fresh.{fresh_control, fresh_state}
 use Rattle.paper.specs.Status.{look}

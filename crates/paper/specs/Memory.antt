@@ -3,6 +3,7 @@
 --   Fifo                  which of the four
 --   size f n, base f n    the words of a FIFO, and its first word in memory, for TX_FIF_SZ n
 --   Four A, of q f        one A for each FIFO, and that of FIFO f
+--   ring f s, with_ring f r s    the ring of FIFO f in the state s, and s with another one
 --   place b s k           the word of memory for word k of a ring of s words from word b on
 --   waiting b s r m       the words waiting in a ring of s words from word b on, oldest first
 --   put_all b s k ws m    the memory after the words ws are put as words number k, k + 1 and so on
@@ -12,17 +13,14 @@
 -- Assumes nothing.
 use Rattle.std.specs.Prelude.{List, [], ◌∷◌, ◌++◌, ℕ, suc, ◌+◌, ◌-◌, ◌*◌, ◌%◌, length, get_or, set, drop}
 use Rattle.paper.specs.declared.Ring.{Ring}
+use Rattle.paper.specs.declared.State.{State}
+use Rattle.paper.specs.declared.Fifo.{Fifo}
+use Rattle.paper.specs.declared.Fifo.TheVariants.{TxData, TxStatus, RxData, RxStatus}
 use Rattle.paper.specs.Words.{series}
 
 -- 01: "The caller lends exactly 4,096 words of 32 bits, 16 KB."
 abbrev pub words_lent : ℕ
 words_lent = 4096
-
-pub data Fifo : Type 0 where
-  TxData : Fifo
-  TxStatus : Fifo
-  RxData : Fifo
-  RxStatus : Fifo
 
 -- 01: the table of words. "TX_FIF_SZ is n, 2 to 14"
 abbrev pub size : Fifo → (n : ℕ) → ℕ
@@ -49,6 +47,19 @@ of q TxData = q.txdata
 of q TxStatus = q.txstatus
 of q RxData = q.rxdata
 of q RxStatus = q.rxstatus
+
+-- the ring of a FIFO, and the state with another ring of it
+abbrev pub ring : Fifo → State → Ring
+ring TxData s = s.txdata
+ring TxStatus s = s.txstatus
+ring RxData s = s.rxdata
+ring RxStatus s = s.rxstatus
+
+abbrev pub with_ring : Fifo → Ring → State → State
+with_ring TxData r s = record { control = s.control; txdata = r; txstatus = s.txstatus; rxdata = s.rxdata; rxstatus = s.rxstatus }
+with_ring TxStatus r s = record { control = s.control; txdata = s.txdata; txstatus = r; rxdata = s.rxdata; rxstatus = s.rxstatus }
+with_ring RxData r s = record { control = s.control; txdata = s.txdata; txstatus = s.txstatus; rxdata = r; rxstatus = s.rxstatus }
+with_ring RxStatus r s = record { control = s.control; txdata = s.txdata; txstatus = s.txstatus; rxdata = s.rxdata; rxstatus = r }
 
 -- 01: "Word k put into a FIFO since its last restart, counting from 0, goes to place k mod size of that FIFO."
 abbrev pub place : (base size k : ℕ) → ℕ

@@ -2,13 +2,14 @@
 --   Unique, NeverLost, KeepsRanges, Places, WholeOrNothing, DroppedExactly, ReadsBack, Levels, SentAsWritten, PacketAccepted
 -- Demand 3 stands in Twins.
 -- Assumes nothing.
-use Rattle.std.specs.Prelude.{◌≡◌, ◌≢◌, ◌↔◌, true, not, false, List, [], ◌∷◌, ◌++◌, map, ℕ, ◌-◌, ◌%◌, ◌^◌, ◌≤◌, ◌<◌, ◌+◌, length, drop, get_or, replicate}
+use Rattle.std.specs.Prelude.{◌≡◌, ◌≢◌, ◌↔◌, true, not, false, List, [], ◌∷◌, ◌++◌, map, ℕ, ◌-◌, ◌%◌, ◌^◌, ◌≤◌, ◌<◌, ◌+◌, length, drop, get_or, replicate, Err, Ok}
 use Rattle.paper.specs.declared.Said.{Said}
 use Rattle.paper.specs.declared.State.{State}
 use Rattle.paper.specs.declared.Refusal.TheVariants.{MemoryLength, OutOfRange}
-use Rattle.paper.specs.declared.Answer.{Answer}
-use Rattle.paper.specs.declared.Answer.TheVariants.{Value, Refused}
-use Rattle.paper.specs.Memory.{Fifo, size, base, place, TxData, TxStatus, RxData, RxStatus}
+use Rattle.paper.specs.Answers.{Answer}
+use Rattle.paper.specs.declared.Fifo.{Fifo}
+use Rattle.paper.specs.declared.Fifo.TheVariants.{TxData, TxStatus, RxData, RxStatus}
+use Rattle.paper.specs.Memory.{size, base, place}
 use Rattle.paper.specs.Registers.{rx_fifo_inf, tx_fifo_inf}
 use Rattle.paper.specs.Filter.{passes}
 use Rattle.paper.specs.Status.{look, longest, status}
@@ -56,7 +57,7 @@ Unique = (c : Call) (w : World) (r r' : Result) → Meets c w r → Meets c w r'
 
 abbrev pub NeverLost : Type 0
 NeverLost = (m : List ℕ) → Lent m → (cs : List Call) (c : Call)
-    → (answer c (reached cs m) ≢ Refused OutOfRange) × (answer c (reached cs m) ≢ Refused MemoryLength)
+    → (answer c (reached cs m) ≢ Err OutOfRange) × (answer c (reached cs m) ≢ Err MemoryLength)
 
 -- Can an arrival, a read, a pop or a peek bring a state out of its ranges?
 -- No, from any state in range, reached or not. Shuts out: stored_with_no_free_status.
@@ -88,15 +89,15 @@ pub record Leaves (frame : List ℕ) (flags : ℕ) (w : World) : Type 0 where
 
 abbrev pub WholeOrNothing : Type 0
 WholeOrNothing = (m : List ℕ) → Lent m → (cs : List Call) (frame : List ℕ) (flags : ℕ)
-    → (answer (Arrive frame flags) (reached cs m) ≡ arrival_answer Stored → Keeps frame flags (reached cs m))
-    × (answer (Arrive frame flags) (reached cs m) ≢ arrival_answer Stored → Leaves frame flags (reached cs m))
+    → (answer (Arrive frame flags) (reached cs m) ≡ arrival_answer (Ok Stored) → Keeps frame flags (reached cs m))
+    × (answer (Arrive frame flags) (reached cs m) ≢ arrival_answer (Ok Stored) → Leaves frame flags (reached cs m))
 
 -- When is a frame dropped?
 -- Exactly when lines 1 to 5 do not answer and the free data words are fewer than L/4 rounded up or no status is free.
 -- In every run. Shuts out: drops_always, stored_with_no_free_status.
 abbrev pub DroppedExactly : Type 0
 DroppedExactly = (m : List ℕ) → Lent m → (cs : List Call) (frame : List ℕ) (flags : ℕ)
-    → (answer (Arrive frame flags) (reached cs m) ≡ arrival_answer Dropped)
+    → (answer (Arrive frame flags) (reached cs m) ≡ arrival_answer (Ok Dropped))
     ↔ (Due (reached cs m).state.control.registers (look frame flags)
     × (lacks_room (reached cs m).state.control.registers.n (length (waits (reached cs m)).rxdata) (length (waits (reached cs m)).rxstatus) (length frame) ≡ true))
 
@@ -121,10 +122,10 @@ abbrev pub held : Fifo → Ledger → ℕ
 held f l = length (put f l) - taken f l
 
 pub record LevelsOf (w : World) (l : Ledger) : Type 0 where
-  pub rx : answer RxFifoInf w ≡ Value (rx_fifo_inf (held RxStatus l) (held RxData l))
-  pub tx : answer TxFifoInf w ≡ Value (tx_fifo_inf l.registers.n (held TxStatus l) (held TxData l))
-  pub drops : answer RxDrop w ≡ Value (l.dropped % 2 ^ 32)
-  pub split : answer Split w ≡ Value l.registers.n
+  pub rx : answer RxFifoInf w ≡ Ok (rx_fifo_inf (held RxStatus l) (held RxData l))
+  pub tx : answer TxFifoInf w ≡ Ok (tx_fifo_inf l.registers.n (held TxStatus l) (held TxData l))
+  pub drops : answer RxDrop w ≡ Ok (l.dropped % 2 ^ 32)
+  pub split : answer Split w ≡ Ok l.registers.n
 
 abbrev pub Levels : Type 0
 Levels = (m : List ℕ) → Lent m → (cs : List Call) → LevelsOf (reached cs m) (ledger_of cs m)
@@ -136,7 +137,7 @@ Levels = (m : List ℕ) → Lent m → (cs : List Call) → LevelsOf (reached cs
 
 pub record SendsOf (w : World) (l : Ledger) (outcome : ℕ) (out : List ℕ) : Type 0 where
   pub answers : answer (Send outcome out) w ≡ sending l.registers outcome (length out) (held TxStatus l) (drop l.wrote.sent l.wrote.packets)
-  pub sends : (n : ℕ) → answer (Send outcome out) w ≡ Value n → (p : Whole) (ps : List Whole) → drop l.wrote.sent l.wrote.packets ≡ p ∷ ps
+  pub sends : (n : ℕ) → answer (Send outcome out) w ≡ Ok n → (p : Whole) (ps : List Whole) → drop l.wrote.sent l.wrote.packets ≡ p ∷ ps
       → (step (Send outcome out) w).out ≡ out_after (frame_of p.b (packet_bytes p)) out
 
 abbrev pub SentAsWritten : Type 0
@@ -148,7 +149,7 @@ SentAsWritten = (m : List ℕ) → Lent m → (cs : List Call) (outcome : ℕ) (
 -- In every world in range, reached or not. Shuts out: refuses_always, later_b_charged, nine_for_a_word_thrown_away.
 
 pub record Accepts (p : Whole) (w : World) : Type 0 where
-  pub answered : answers (map TxWord (host_writes p)) w ≡ replicate (length (host_writes p)) (Value 0)
+  pub answered : answers (map TxWord (host_writes p)) w ≡ replicate (length (host_writes p)) (Ok 0)
   pub port : (world_after (map TxWord (host_writes p)) w).state.control.port ≡ record { expect = CommandA Closed; failed = false; whole = w.state.control.port.whole + 1 }
   pub words : (waits (world_after (map TxWord (host_writes p)) w)).txdata ≡ (waits w).txdata ++ laid p
 

@@ -6,11 +6,10 @@
 -- The order of refusals is that of the tests: 14 and 15 in `act` of Machine, the others in each call's rule in Acts, in `arrival` and in `port_takes`.
 -- Combinations that no port reaches, such as payload words left with no B known, hold what no port accepts, and are out of range (DECISIONS 4).
 -- Assumes nothing.
-use Rattle.std.specs.Prelude.{Bool, true, false, not, ◌&&◌, List, ℕ, ◌*◌, ltb, leb, eqb, length}
+use Rattle.std.specs.Prelude.{Bool, true, false, not, ◌&&◌, List, ℕ, ◌*◌, ltb, leb, eqb, length, Err, Ok}
 use Rattle.paper.specs.declared.Refusal.{Refusal}
 use Rattle.paper.specs.declared.Refusal.TheVariants.{ArrivingLength, OtherBits, NoRegister, BadValue, NotNow, ErrorStands, BadCommand, Disagrees, DataFull, SendingOff, NothingThere, StatusFull, OutShort, MemoryLength, OutOfRange}
-use Rattle.paper.specs.declared.Answer.{Answer}
-use Rattle.paper.specs.declared.Answer.TheVariants.{Value, Refused}
+use Rattle.paper.specs.Answers.{Answer}
 use Rattle.paper.specs.declared.Said.{Said}
 use Rattle.paper.specs.declared.Ring.{Ring}
 use Rattle.paper.specs.declared.Packet.{Packet}
@@ -18,7 +17,8 @@ use Rattle.paper.specs.declared.Packet.TheVariants.{Closed, Opened, Known}
 use Rattle.paper.specs.declared.Expect.{Expect}
 use Rattle.paper.specs.declared.Expect.TheVariants.{CommandA, CommandB, Payload}
 use Rattle.paper.specs.declared.State.{State}
-use Rattle.paper.specs.Memory.{words_lent, size, TxData, TxStatus, RxData, RxStatus}
+use Rattle.paper.specs.declared.Fifo.TheVariants.{TxData, TxStatus, RxData, RxStatus}
+use Rattle.paper.specs.Memory.{words_lent, size}
 use Rattle.paper.specs.Registers.{good_registers}
 use Rattle.paper.specs.Transmission.{good_a, good_length, packet_length, host_words, is_first}
 
@@ -45,8 +45,8 @@ number OutOfRange = 15
 
 -- 01: "A refusal returns value 0"
 abbrev pub said : Answer → Said
-said (Value v) = record { refusal = 0; value = v }
-said (Refused r) = record { refusal = number r; value = 0 }
+said (Ok v) = record { refusal = 0; value = v }
+said (Err r) = record { refusal = number r; value = 0 }
 
 -- 01, refusal 14: "lent memory not 4,096 words"
 abbrev pub lent_well : List ℕ → Bool

@@ -1,5 +1,6 @@
 -- The registers. Paper 01, Registers, and of An arriving frame the table of settings.
 --   RXALL .. RXEN, carried              the carried bits of MAC_CR, by number
+--   Setting, defined                    a setting of the five mode bits, and one that is defined
 --   settings, setting_number, setting_of    the 32 settings, the number of a MAC_CR's setting, and that setting
 --   good_maccr, good_addrh, good_n      what a write accepts
 --   is_register k, good_value k v       there is a MAC register k; v may be written to it
@@ -14,18 +15,19 @@
 --   may_resize, may_dump_tx_data, may_dump_rx    whether setting n, or a dump, is allowed now
 -- Differs from 000: MAC_CR starts at 0 (ours) and no bit but these is carried (DECISIONS 21).
 -- Assumes nothing.
-use Rattle.std.specs.Prelude.{if◌then◌else◌, Bool, true, false, not, ◌&&◌, List, [], ◌∷◌, ℕ, ◌+◌, ◌-◌, ◌*◌, ◌%◌, ◌^◌, leb, eqb, get_or}
+use Rattle.std.specs.Prelude.{if◌then◌else◌, Bool, true, false, not, ◌&&◌, List, [], ◌∷◌, ℕ, ◌+◌, ◌-◌, ◌*◌, ◌%◌, ◌^◌, leb, eqb, get_or, Option, None, Some}
 use Rattle.paper.specs.declared.Registers.{Registers}
+use Rattle.paper.specs.declared.Rule.{Rule}
 use Rattle.paper.specs.declared.Rule.TheVariants.{Equal, NotEqual, Hash, Pass}
-use Rattle.paper.specs.declared.Setting.{Setting}
-use Rattle.paper.specs.declared.Setting.TheVariants.{Undefined, Defined}
+use Rattle.paper.specs.declared.Rules.{Rules}
 use Rattle.paper.specs.declared.Port.{Port}
 use Rattle.paper.specs.declared.Expect.{Expect}
 use Rattle.paper.specs.declared.Expect.TheVariants.{CommandA, CommandB, Payload}
 use Rattle.paper.specs.declared.Packet.{Packet}
 use Rattle.paper.specs.declared.Packet.TheVariants.{Closed, Opened, Known}
 use Rattle.paper.specs.Words.{digit, bit, only_bits}
-use Rattle.paper.specs.Memory.{Four, size, TxData}
+use Rattle.paper.specs.declared.Fifo.TheVariants.{TxData}
+use Rattle.paper.specs.Memory.{Four, size}
 
 -- 01: "MAC_CR bits carried: 31 RXALL, 20 FDPX (kept, no effect), 19 MCPAS, 18 PRMS, 17 INVFILT, 16 PASSBAD, 15 HO, 13 HPFILT, 11 BCAST, 3 TXEN, 2 RXEN."
 abbrev pub RXALL : ℕ
@@ -68,26 +70,33 @@ carried = RXALL ∷ FDPX ∷ MCPAS ∷ PRMS ∷ INVFILT ∷ PASSBAD ∷ HO ∷ H
 abbrev pub setting_number : ℕ → ℕ
 setting_number maccr = digit MCPAS maccr * 16 + digit PRMS maccr * 8 + digit INVFILT maccr * 4 + digit HO maccr * 2 + digit HPFILT maccr
 
+-- A setting: none where it is undefined, else the rule for group and that for individual addresses.
+abbrev pub Setting : Type 0
+Setting = Option Rules
+
+abbrev pub defined : (group individual : Rule) → Setting
+defined group individual = Some (record { group = group; individual = individual })
+
 -- 01: "Of the table of the 32 settings 15 are defined". First the rule for group, then that for individual addresses; four settings to a line,
 -- by (HO, HPFILT). That it is 01's table of seven lines is computed in proofs/Rows.
 unfoldable pub settings : List Setting
 settings =
-    Defined Equal Equal ∷ Defined Hash Equal ∷ Undefined ∷ Defined Hash Hash
-    ∷ Defined NotEqual NotEqual ∷ Undefined ∷ Undefined ∷ Undefined
-    ∷ Defined Pass Pass ∷ Defined Pass Pass ∷ Defined Pass Pass ∷ Defined Pass Pass
-    ∷ Undefined ∷ Undefined ∷ Undefined ∷ Undefined
-    ∷ Defined Pass Equal ∷ Defined Pass Equal ∷ Undefined ∷ Defined Pass Hash
-    ∷ Undefined ∷ Undefined ∷ Undefined ∷ Undefined
-    ∷ Defined Pass Pass ∷ Defined Pass Pass ∷ Defined Pass Pass ∷ Defined Pass Pass
-    ∷ Undefined ∷ Undefined ∷ Undefined ∷ Undefined
+    defined Equal Equal ∷ defined Hash Equal ∷ None ∷ defined Hash Hash
+    ∷ defined NotEqual NotEqual ∷ None ∷ None ∷ None
+    ∷ defined Pass Pass ∷ defined Pass Pass ∷ defined Pass Pass ∷ defined Pass Pass
+    ∷ None ∷ None ∷ None ∷ None
+    ∷ defined Pass Equal ∷ defined Pass Equal ∷ None ∷ defined Pass Hash
+    ∷ None ∷ None ∷ None ∷ None
+    ∷ defined Pass Pass ∷ defined Pass Pass ∷ defined Pass Pass ∷ defined Pass Pass
+    ∷ None ∷ None ∷ None ∷ None
     ∷ []
 
 abbrev pub setting_of : ℕ → Setting
-setting_of maccr = get_or settings (setting_number maccr) Undefined
+setting_of maccr = get_or settings (setting_number maccr) None
 
 abbrev pub is_defined : Setting → Bool
-is_defined Undefined = false
-is_defined (Defined g i) = true
+is_defined None = false
+is_defined (Some rules) = true
 
 -- 01: "Any other bit set is a bad value"; "writing one of the other 17 is a bad value"
 abbrev pub good_maccr : ℕ → Bool

@@ -8,13 +8,13 @@
 --   lacks_room            line 6: too few data words free, or no status; by how many wait
 --   sending               the answer to sending, by the packets that are whole and not sent
 -- Assumes nothing.
-use Rattle.std.specs.Prelude.{if◌then◌else◌, ◌≡◌, Bool, true, false, not, ◌||◌, List, [], ◌∷◌, ℕ, ◌-◌, ltb, leb, length}
+use Rattle.std.specs.Prelude.{if◌then◌else◌, ◌≡◌, Bool, true, false, not, ◌||◌, List, [], ◌∷◌, ℕ, ◌-◌, ltb, leb, length, Err, Ok}
 use Rattle.paper.specs.declared.Registers.{Registers}
 use Rattle.paper.specs.declared.Refusal.TheVariants.{SendingOff, OtherBits, NothingThere, StatusFull, OutShort}
-use Rattle.paper.specs.declared.Answer.{Answer}
-use Rattle.paper.specs.declared.Answer.TheVariants.{Value, Refused}
+use Rattle.paper.specs.Answers.{Answer}
 use Rattle.paper.specs.Words.{bit}
-use Rattle.paper.specs.Memory.{words_lent, size, TxStatus, RxData, RxStatus}
+use Rattle.paper.specs.declared.Fifo.TheVariants.{TxStatus, RxData, RxStatus}
+use Rattle.paper.specs.Memory.{words_lent, size}
 use Rattle.paper.specs.Registers.{RXEN, TXEN, RXALL}
 use Rattle.paper.specs.Filter.{passes}
 use Rattle.paper.specs.Status.{Look}
@@ -43,8 +43,8 @@ pub data Reading : Call → Type 0 where
 
 -- 01: "11: nothing to read, peek or send"
 abbrev pub next_of : List ℕ → Answer
-next_of [] = Refused NothingThere
-next_of (w ∷ q) = Value w
+next_of [] = Err NothingThere
+next_of (w ∷ q) = Ok w
 
 -- 01, lines 1 to 5, none of which applies
 pub record Due (r : Registers) (l : Look) : Type 0 where
@@ -60,14 +60,14 @@ lacks_room n words statuses len = ltb (size RxData n - words) (words_for len) ||
 
 -- 01: "sending 10, 2, 11, 15 (head), 12, 13": unsent are the packets whole and not yet sent, statuses those waiting. No packet of a run gets 15.
 abbrev pub sending_to : (n out_length statuses : ℕ) → List Whole → Answer
-sending_to n out_length statuses [] = Refused NothingThere
+sending_to n out_length statuses [] = Err NothingThere
 sending_to n out_length statuses (p ∷ ps) =
-    if leb (size TxStatus n) statuses then Refused StatusFull else
-    if ltb out_length shortest_out then Refused OutShort else
-    Value (length (frame_of p.b (packet_bytes p)))
+    if leb (size TxStatus n) statuses then Err StatusFull else
+    if ltb out_length shortest_out then Err OutShort else
+    Ok (length (frame_of p.b (packet_bytes p)))
 
 abbrev pub sending : Registers → (outcome out_length statuses : ℕ) → List Whole → Answer
 sending r outcome out_length statuses unsent =
-    if not (bit TXEN r.maccr) then Refused SendingOff else
-    if not (good_outcome outcome) then Refused OtherBits else
+    if not (bit TXEN r.maccr) then Err SendingOff else
+    if not (good_outcome outcome) then Err OtherBits else
     sending_to r.n out_length statuses unsent

@@ -13,7 +13,7 @@
 -- Differs from 000: middle buffers of 1 to 3 bytes pass, and no packet is too finely split (DECISIONS 12). A transmit error stands until TX data is dumped or
 -- the model is reset. "Other bits are stored and mean nothing."
 -- Assumes nothing.
-use Rattle.std.specs.Prelude.{if◌then◌else◌, Bool, true, false, not, ◌&&◌, [], ◌∷◌, ℕ, ◌+◌, ◌-◌, ◌*◌, ◌/◌, ◌%◌, ltb, leb, eqb}
+use Rattle.std.specs.Prelude.{if◌then◌else◌, Bool, true, false, not, ◌&&◌, [], ◌∷◌, ℕ, ◌+◌, ◌-◌, ◌*◌, ◌/◌, ◌%◌, ltb, leb, eqb, Err, Ok}
 use Rattle.paper.specs.declared.Packet.{Packet}
 use Rattle.paper.specs.declared.Packet.TheVariants.{Closed, Opened, Known}
 use Rattle.paper.specs.declared.Expect.{Expect}
@@ -21,8 +21,7 @@ use Rattle.paper.specs.declared.Expect.TheVariants.{CommandA, CommandB, Payload}
 use Rattle.paper.specs.declared.Port.{Port}
 use Rattle.paper.specs.declared.Refusal.{Refusal}
 use Rattle.paper.specs.declared.Refusal.TheVariants.{ErrorStands, BadCommand, Disagrees, DataFull, OutOfRange}
-use Rattle.paper.specs.declared.Answer.{Answer}
-use Rattle.paper.specs.declared.Answer.TheVariants.{Value, Refused}
+use Rattle.paper.specs.Answers.{Answer}
 use Rattle.paper.specs.Words.{bit, bits}
 use Rattle.paper.specs.Memory.{Change, keeps, puts}
 
@@ -113,10 +112,10 @@ pub record Turn : Type 0 where
 
 -- 01, Refusal numbers: "7, 8 and 9 set the transmit error"
 abbrev pub fails : Refusal → Port → Turn
-fails r p = record { port = record { expect = p.expect; failed = true; whole = p.whole }; change = keeps; answer = Refused r }
+fails r p = record { port = record { expect = p.expect; failed = true; whole = p.whole }; change = keeps; answer = Err r }
 
 abbrev pub moves : Expect → (whole : ℕ) → Change → Turn
-moves e whole c = record { port = record { expect = e; failed = false; whole = whole }; change = c; answer = Value 0 }
+moves e whole c = record { port = record { expect = e; failed = false; whole = whole }; change = c; answer = Ok 0 }
 
 -- 01, refusal 9: "a word to be stored finds TX data full". whole is the number of whole packets after the word.
 abbrev pub stores : Bool → Port → Expect → (whole : ℕ) → (w : ℕ) → Turn
@@ -128,7 +127,7 @@ takes_a free p packet w = if good_a (is_open packet) w then stores free p (Comma
 
 -- 01: "B if First"; "Bits 13 and 12 count in the first buffer's B only." A B with no packet open is none that a port expects: 15, as by its range.
 unfoldable pub takes_b : Bool → Port → (a : ℕ) → Packet → (w : ℕ) → Turn
-takes_b free p a Closed w = record { port = p; change = keeps; answer = Refused OutOfRange }
+takes_b free p a Closed w = record { port = p; change = keeps; answer = Err OutOfRange }
 takes_b free p a Opened w =
     if not (good_length w) then fails BadCommand p else
     if not (sizes_agree a w 0) then fails Disagrees p else
@@ -160,5 +159,5 @@ takes_expected free p (Payload a left packet) w = takes_payload free p a left pa
 -- 01, refusal 6: "TX word while a transmit error stands"; the order is "TX words 6, 7, 8, 9"
 unfoldable pub port_takes : (free : Bool) → Port → (w : ℕ) → Turn
 port_takes free p w =
-    if p.failed then record { port = p; change = keeps; answer = Refused ErrorStands } else
+    if p.failed then record { port = p; change = keeps; answer = Err ErrorStands } else
     takes_expected free p p.expect w

@@ -9,12 +9,11 @@
 --   Agrees                what it sees of the two runs
 --   host_log cs w         the support log: the answers to the host's calls, receive data words left out
 -- Assumes nothing.
-use Rattle.std.specs.Prelude.{if◌then◌else◌, ◌≡◌, true, List, [], ◌∷◌, ◌++◌, ℕ, ◌-◌, ltb, length, take}
+use Rattle.std.specs.Prelude.{if◌then◌else◌, ◌≡◌, true, List, [], ◌∷◌, ◌++◌, ℕ, ◌-◌, ltb, length, take, Err, Ok}
 use Rattle.paper.specs.declared.Port.{Port}
 use Rattle.paper.specs.declared.Packet.{Packet}
 use Rattle.paper.specs.declared.Expect.TheVariants.{Payload as CountsPayload}
-use Rattle.paper.specs.declared.Answer.{Answer}
-use Rattle.paper.specs.declared.Answer.TheVariants.{Value, Refused}
+use Rattle.paper.specs.Answers.{Answer}
 use Rattle.paper.specs.declared.Arrival.TheVariants.{Ignored, Discarded, Filtered}
 use Rattle.paper.specs.Checksum.{fcs_fits}
 use Rattle.paper.specs.Arrivals.{arrival_answer, data_words}
@@ -37,9 +36,9 @@ pub data Allowed (w : World) : Call → Call → Type 0 where
   content : {f g : List ℕ} {flags : ℕ} → length f ≡ length g → take 14 f ≡ take 14 g → fcs_fits f ≡ fcs_fits g → Allowed w (Arrive f flags) (Arrive g flags)
 
 pub data Unheard : Answer → Type 0 where
-  ignored : Unheard (arrival_answer Ignored)
-  discarded : Unheard (arrival_answer Discarded)
-  filtered : Unheard (arrival_answer Filtered)
+  ignored : Unheard (arrival_answer (Ok Ignored))
+  discarded : Unheard (arrival_answer (Ok Discarded))
+  filtered : Unheard (arrival_answer (Ok Filtered))
 
 -- calls that both make, and further arrivals of either that it does not hear
 pub data Twins : World → World → List Call → List Call → Type 0 where
@@ -53,8 +52,8 @@ pub data Twins : World → World → List Call → List Call → Type 0 where
 -- ---- What the host sees
 
 abbrev pub blank_word : Answer → Answer
-blank_word (Value v) = Value 0
-blank_word (Refused r) = Refused r
+blank_word (Ok v) = Ok 0
+blank_word (Err r) = Err r
 
 abbrev pub blank : Call → Answer → Answer
 blank Reset a = a

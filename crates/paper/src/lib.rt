@@ -2,8 +2,13 @@
 // What they mean is said in specs/; the functions here are proved equal to it.
 #![tactic(auto)]
 
-ghost use Rattle.std.specs.Prelude.{◌≡◌};
-ghost use Rattle.paper.specs.Fresh.{fresh_state};
+ghost use Rattle.std.specs.Prelude.{◌≡◌, Ok, Err};
+ghost use Rattle.paper.specs.Memory.{ring, with_ring};
+ghost use Rattle.paper.specs.Fresh.{fresh_registers, fresh_port, empty, fresh_state};
+ghost use Rattle.paper.specs.Arrivals.{line};
+ghost use Rattle.paper.specs.Refusals.{number, said};
+
+use std::fmt;
 
 // The registers: n is TX_FIF_SZ, drops is RX_DROP, the others are those of the MAC.
 #[derive(Clone, Copy)]
@@ -16,6 +21,18 @@ pub struct Registers {
     pub hashl: u32,
     pub drops: u32,
 }
+
+// The four FIFOs, in the order of the lent memory.
+#[derive(Clone, Copy)]
+pub enum Fifo {
+    TxData,
+    TxStatus,
+    RxData,
+    RxStatus,
+}
+
+// The lent memory, 16 KB.
+pub type Memory = [u32; 4096];
 
 // A FIFO in the lent memory: the place of its oldest word, and how many words wait.
 #[derive(Clone, Copy)]
@@ -72,12 +89,15 @@ pub enum Rule {
     Pass,
 }
 
-// A setting of the five mode bits: undefined, or the rules for group and individual addresses.
+// The rules for group and for individual addresses.
 #[derive(Clone, Copy)]
-pub enum Setting {
-    Undefined,
-    Defined { group: Rule, individual: Rule },
+pub struct Rules {
+    pub group: Rule,
+    pub individual: Rule,
 }
+
+// A setting of the five mode bits: its rules; none where it is undefined.
+pub type Setting = Option<Rules>;
 
 // What the room test answers.
 #[derive(Clone, Copy)]
@@ -86,10 +106,10 @@ pub enum Room {
     Short,
 }
 
-// The refusals, in the order of their numbers, 1 to 15.
+// The refusals, by their numbers, 1 to 15.
 #[derive(Clone, Copy)]
 pub enum Refusal {
-    ArrivingLength,
+    ArrivingLength = 1,
     OtherBits,
     NoRegister,
     BadValue,
@@ -106,18 +126,13 @@ pub enum Refusal {
     OutOfRange,
 }
 
-// The answer of a call.
-#[derive(Clone, Copy)]
-pub enum Answer {
-    Value(u32),
-    Refused(Refusal),
-}
+// The answer of a call: its value, or a refusal.
+pub type Answer = Result<u32, Refusal>;
 
-// The answer to an arriving frame.
-#[derive(Clone, Copy)]
+// The line of 01 that answers an arriving frame which is not refused, by its number, 3 to 7.
+#[derive(Clone, Copy, Debug)]
 pub enum Arrival {
-    Refused(Refusal),
-    Ignored,
+    Ignored = 3,
     Discarded,
     Filtered,
     Dropped,
@@ -126,16 +141,31 @@ pub enum Arrival {
 
 // What a call answers, with the state after it.
 #[derive(Clone, Copy)]
-pub struct Reply {
-    pub answer: Answer,
+pub struct Reply<T> {
+    pub answer: Result<T, Refusal>,
     pub state: State,
 }
 
-// What an arriving frame is answered, with the state after it.
-#[derive(Clone, Copy)]
-pub struct Arrived {
-    pub answer: Arrival,
-    pub state: State,
+impl<T> Reply<T> {
+    // A call done: its answer, and the state after it.
+    pub fn done(x: T, after: State) -> Self
+        ensures { result ≡ record { answer = Ok x; state = after } }
+    {
+        Self {
+            answer: Ok(x),
+            state: after,
+        }
+    }
+
+    // A call refused: the state as it was.
+    pub fn refused(k: Refusal, s: State) -> Self
+        ensures { result ≡ record { answer = Err k; state = s } }
+    {
+        Self {
+            answer: Err(k),
+            state: s,
+        }
+    }
 }
 
 // An answer in numbers: the refusal's number, 0 for none, and the value.
@@ -153,6 +183,43 @@ impl Registers {
     pub const ADDRL: u32 = 0xFFFF_FFFF;
 
     pub const SPLIT: u32 = 5;
+
+    // The defaults.
+    pub fn fresh() -> Self
+        ensures { result ≡ fresh_registers }
+    {
+        Self {
+            n: Self::SPLIT,
+            maccr: Self::MAC_CR,
+            addrh: Self::ADDRH,
+            addrl: Self::ADDRL,
+            hashh: 0,
+            hashl: 0,
+            drops: 0,
+        }
+    }
+}
+
+impl Ring {
+    // A FIFO just restarted: no word waits, and the next one goes to place 0.
+    pub fn empty() -> Self
+        ensures { result ≡ empty }
+    {
+        Self { at: 0, count: 0 }
+    }
+}
+
+impl Port {
+    // No transmit error, no packet open or whole, the port expecting an A.
+    pub fn fresh() -> Self
+        ensures { result ≡ fresh_port }
+    {
+        Self {
+            expect: Expect::CommandA(Packet::Closed),
+            failed: false,
+            whole: 0,
+        }
+    }
 }
 
 impl State {
@@ -160,31 +227,89 @@ impl State {
     pub fn fresh() -> Self
         ensures { result ≡ fresh_state }
     {
-        let registers = Registers {
-            n: Registers::SPLIT,
-            maccr: Registers::MAC_CR,
-            addrh: Registers::ADDRH,
-            addrl: Registers::ADDRL,
-            hashh: 0,
-            hashl: 0,
-            drops: 0,
-        };
-        let port = Port {
-            expect: Expect::CommandA(Packet::Closed),
-            failed: false,
-            whole: 0,
-        };
-        let control = Control {
-            registers: registers,
-            port: port,
-        };
-        let empty = Ring { at: 0, count: 0 };
         Self {
-            control: control,
-            txdata: empty,
-            txstatus: empty,
-            rxdata: empty,
-            rxstatus: empty,
+            control: Control {
+                registers: Registers::fresh(),
+                port: Port::fresh(),
+            },
+            txdata: Ring::empty(),
+            txstatus: Ring::empty(),
+            rxdata: Ring::empty(),
+            rxstatus: Ring::empty(),
         }
+    }
+
+    // The ring of a FIFO.
+    pub fn ring(self, f: Fifo) -> Ring
+        ensures { result ≡ ring f self }
+    {
+        match f {
+            Fifo::TxData => self.txdata,
+            Fifo::TxStatus => self.txstatus,
+            Fifo::RxData => self.rxdata,
+            Fifo::RxStatus => self.rxstatus,
+        }
+    }
+
+    // The state with another ring of a FIFO.
+    pub fn with_ring(self, f: Fifo, r: Ring) -> Self
+        ensures { result ≡ with_ring f r self }
+    {
+        match f {
+            Fifo::TxData => State { txdata: r, ..self },
+            Fifo::TxStatus => State {
+                txstatus: r,
+                ..self
+            },
+            Fifo::RxData => State { rxdata: r, ..self },
+            Fifo::RxStatus => State {
+                rxstatus: r,
+                ..self
+            },
+        }
+    }
+}
+
+// 01's number of a refusal.
+impl From<Refusal> for u32 {
+    ghost from_gives = { λ k v. v ≡ number k };
+
+    fn from(k: Refusal) -> u32 {
+        k as u32
+    }
+}
+
+// 01's number of the line that answered an arriving frame.
+impl From<Arrival> for u32 {
+    ghost from_gives = { λ a v. v ≡ line a };
+
+    fn from(a: Arrival) -> u32 {
+        a as u32
+    }
+}
+
+// An answer in numbers: 0 and the value, or the refusal's number and 0.
+impl From<Answer> for Said {
+    ghost from_gives = { λ a s. s ≡ said a };
+
+    fn from(a: Answer) -> Said {
+        match a {
+            Ok(value) => Said { refusal: 0, value },
+            Err(k) => Said {
+                refusal: u32::from(k),
+                value: 0,
+            },
+        }
+    }
+}
+
+impl fmt::Display for Rule {
+    fn fmt<W: fmt::Write>(&self, f: &mut fmt::Formatter<W>) -> fmt::Result {
+        f.write_str(match self {
+            Rule::Equal => "equal",
+            Rule::NotEqual => "not-equal",
+            Rule::Hash => "hash",
+            Rule::Pass => "pass",
+        })
     }
 }

@@ -5,6 +5,7 @@
 --   inside, at_in_part    where the part of a FIFO and its oldest word lie
 --   popped, peeked        the contracts of those calls, from what the functions of this crate ensure
 -- Assumes nothing.
+use Rattle.std.specs.Prelude.{Ok}
 use mathlib.Core.Path.{◌≡◌, refl, sym, ap, ◌∙◌}
 use mathlib.Core.Bool.{false}
 use mathlib.Core.List.{List, []}
@@ -16,10 +17,11 @@ use borrow.Author.Tests.{eq-eqb, ne_eqb}
 use Rattle.paper.specs.declared.Ring.{Ring}
 use Rattle.paper.specs.declared.Control.{Control}
 use Rattle.paper.specs.declared.State.{State}
-use Rattle.paper.specs.declared.Answer.{Answer}
-use Rattle.paper.specs.declared.Answer.TheVariants.{Value}
+use Rattle.paper.specs.Answers.{Answer}
 use Rattle.paper.specs.declared.Refusal.TheVariants.{NothingThere}
-use Rattle.paper.specs.Memory.{Fifo, TxData, TxStatus, RxData, RxStatus, Four, of, size, base, Change, keeps, takes, ring_after, memory_after}
+use Rattle.paper.specs.declared.Fifo.{Fifo}
+use Rattle.paper.specs.declared.Fifo.TheVariants.{TxData, TxStatus, RxData, RxStatus}
+use Rattle.paper.specs.Memory.{Four, of, size, base, Change, keeps, takes, ring_after, memory_after}
 use Rattle.paper.specs.Calls.{Call, lends}
 use Rattle.paper.specs.Acts.{unchanged, does, refuses, oldest}
 use Rattle.paper.specs.Machine.{World, waits, decide, apply}
@@ -85,7 +87,7 @@ module _ (f : Fifo) (s : State) (m : List ℕ) where
           (sym (told_same c s m e.lent e.range lent (refuses NothingThere s.control) (decided (none_waits f s m empty)) refl refl refl))
       by_count (suc k) there =
           rw (some_count k)
-          (ap (λ (w : World). told (Value word) w.state w.memory) (sym (some k there))
+          (ap (λ (w : World). told (Ok word) w.state w.memory) (sym (some k there))
           ∙ sym (told_decided c s m e.lent e.range lent (does s.control changes word)
           (decided (oldest_waits f s m k there (in_ring s e.range f).at_lt)) refl))
 

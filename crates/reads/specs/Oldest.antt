@@ -3,15 +3,14 @@
 --   rest_of size r         the ring without its oldest word; the ring itself where none waits
 --   Rest size r q          q is that ring, and its place is in the ring's range
 -- Assumes nothing.
-use Rattle.std.specs.Prelude.{if◌then◌else◌, ◌≡◌, ℕ, ◌<◌, eqb}
+use Rattle.std.specs.Prelude.{if◌then◌else◌, ◌≡◌, ℕ, ◌<◌, eqb, Err, Ok}
 use Rattle.paper.specs.declared.Ring.{Ring}
-use Rattle.paper.specs.declared.Answer.{Answer}
-use Rattle.paper.specs.declared.Answer.TheVariants.{Value, Refused}
+use Rattle.paper.specs.Answers.{Answer}
 use Rattle.paper.specs.declared.Refusal.TheVariants.{NothingThere}
 use Rattle.paper.specs.Memory.{takes, ring_after}
 
 abbrev pub oldest_of : (count w : ℕ) → Answer
-oldest_of count w = if eqb count 0 then Refused NothingThere else Value w
+oldest_of count w = if eqb count 0 then Err NothingThere else Ok w
 
 abbrev pub rest_of : (size : ℕ) → Ring → Ring
 rest_of size r = if eqb r.count 0 then r else ring_after size (takes 1) r

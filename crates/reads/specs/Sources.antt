@@ -6,7 +6,8 @@
 --   peek_of k              the call that reads its oldest word and leaves it
 -- Assumes nothing.
 use Rattle.std.specs.Prelude.{ℕ}
-use Rattle.paper.specs.Memory.{Fifo, size, base}
+use Rattle.paper.specs.declared.Fifo.{Fifo}
+use Rattle.paper.specs.Memory.{size, base}
 use Rattle.paper.specs.Memory as memory
 use Rattle.paper.specs.Calls.{Call, RxDataRead, RxStatusPop, RxStatusPeek, TxStatusPop, TxStatusPeek}
 use Rattle.reads.specs.declared.source.Source.{Source}

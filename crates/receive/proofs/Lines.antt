@@ -3,6 +3,7 @@
 --   arrived_told          the contract of an arrival: the line that answers, and the world after what that line does
 --   still_leaves, dropped_leaves, stored_leaves    what each line does
 -- Assumes nothing.
+use Rattle.std.specs.Prelude.{Err, Ok}
 use Rattle.std.proofs.Common.{◌≡◌, ℕ, ◌<◌, ◌≤◌, Bool, true, false, not, ◌&&◌, eqb, ltb, List, [], ◌∷◌, take, sym, refl, ap, ◌∙◌, arith, ltb-false}
 use borrow.Author.Tests.{eqb-false}
 use Rattle.paper.specs.declared.Registers.{Registers}
@@ -10,9 +11,10 @@ use Rattle.paper.specs.declared.Control.{Control}
 use Rattle.paper.specs.declared.Ring.{Ring}
 use Rattle.paper.specs.declared.State.{State}
 use Rattle.paper.specs.declared.Arrival.{Arrival}
-use Rattle.paper.specs.declared.Arrival.TheVariants.{Refused as RefusedArrival, Ignored, Discarded, Filtered, Dropped, Stored}
+use Rattle.paper.specs.declared.Arrival.TheVariants.{Ignored, Discarded, Filtered, Dropped, Stored}
 use Rattle.paper.specs.Words.{bit}
-use Rattle.paper.specs.Memory.{RxData, RxStatus, size, base, Four, puts, ring_after, memory_after}
+use Rattle.paper.specs.declared.Fifo.TheVariants.{RxData, RxStatus}
+use Rattle.paper.specs.Memory.{size, base, Four, puts, ring_after, memory_after}
 use Rattle.paper.specs.Filter.{passes}
 use Rattle.paper.specs.Status.{Look, look, longest, status}
 use Rattle.paper.specs.Registers.{RXEN, RXALL}
@@ -43,12 +45,12 @@ other number s a e = absurd (let z : ◌≡◌ {A = ℕ} 0 1 = sym s ∙ ap numb
 
 -- Stored, or not
 abbrev kind_of_answer : Arrival → ℕ
-kind_of_answer (RefusedArrival r) = 1
-kind_of_answer Ignored = 1
-kind_of_answer Discarded = 1
-kind_of_answer Filtered = 1
-kind_of_answer Dropped = 1
-kind_of_answer Stored = 0
+kind_of_answer (Err r) = 1
+kind_of_answer (Ok Ignored) = 1
+kind_of_answer (Ok Discarded) = 1
+kind_of_answer (Ok Filtered) = 1
+kind_of_answer (Ok Dropped) = 1
+kind_of_answer (Ok Stored) = 0
 
 module _ (r : Registers) (words statuses : ℕ) (l : Look) where
   abbrev Says : Arrival → Type 0
@@ -90,12 +92,12 @@ stored_fits s l e a =
 -- An arrival sends nothing.
 arrives_nothing_sent : (a : Arrival) (k : Control) (l : Look) (words : List ℕ) → (arrives a k l words).sent ≡ []
 unfolding arrives
-arrives_nothing_sent (RefusedArrival e) k l words = refl
-arrives_nothing_sent Ignored k l words = refl
-arrives_nothing_sent Discarded k l words = refl
-arrives_nothing_sent Filtered k l words = refl
-arrives_nothing_sent Dropped k l words = refl
-arrives_nothing_sent Stored k l words = refl
+arrives_nothing_sent (Err e) k l words = refl
+arrives_nothing_sent (Ok Ignored) k l words = refl
+arrives_nothing_sent (Ok Discarded) k l words = refl
+arrives_nothing_sent (Ok Filtered) k l words = refl
+arrives_nothing_sent (Ok Dropped) k l words = refl
+arrives_nothing_sent (Ok Stored) k l words = refl
 
 -- What is decided of an arrival, by the rings' counts.
 arrive_decided : (s : State) (m frame : List ℕ) (flags : ℕ)
@@ -118,22 +120,22 @@ arrived_told s m frame flags e a line t m' after =
 
 -- the line writes and counts nothing
 abbrev pub is_still : Arrival → Bool
-is_still (RefusedArrival r) = true
-is_still Ignored = true
-is_still Discarded = true
-is_still Filtered = true
-is_still Dropped = false
-is_still Stored = false
+is_still (Err r) = true
+is_still (Ok Ignored) = true
+is_still (Ok Discarded) = true
+is_still (Ok Filtered) = true
+is_still (Ok Dropped) = false
+is_still (Ok Stored) = false
 
 -- Such a line leaves all as it was.
 pub still_leaves : (a : Arrival) (s : State) (m frame : List ℕ) (flags : ℕ) → is_still a ≡ true → Leaves (arrived_at a s m frame flags) s m
 unfolding arrives apply ring_after memory_after
-still_leaves (RefusedArrival r) s m frame flags e = record { state = refl; memory = refl }
-still_leaves Ignored s m frame flags e = record { state = refl; memory = refl }
-still_leaves Discarded s m frame flags e = record { state = refl; memory = refl }
-still_leaves Filtered s m frame flags e = record { state = refl; memory = refl }
-still_leaves Dropped s m frame flags e = absurd (let z : ◌≡◌ {A = Bool} false true = e in let y : ◌≡◌ {A = ℕ} 0 1 = cc in omega arith)
-still_leaves Stored s m frame flags e = absurd (let z : ◌≡◌ {A = Bool} false true = e in let y : ◌≡◌ {A = ℕ} 0 1 = cc in omega arith)
+still_leaves (Err r) s m frame flags e = record { state = refl; memory = refl }
+still_leaves (Ok Ignored) s m frame flags e = record { state = refl; memory = refl }
+still_leaves (Ok Discarded) s m frame flags e = record { state = refl; memory = refl }
+still_leaves (Ok Filtered) s m frame flags e = record { state = refl; memory = refl }
+still_leaves (Ok Dropped) s m frame flags e = absurd (let z : ◌≡◌ {A = Bool} false true = e in let y : ◌≡◌ {A = ℕ} 0 1 = cc in omega arith)
+still_leaves (Ok Stored) s m frame flags e = absurd (let z : ◌≡◌ {A = Bool} false true = e in let y : ◌≡◌ {A = ℕ} 0 1 = cc in omega arith)
 
 -- Dropped counts.
 pub dropped_leaves : (s : State) (m frame : List ℕ) (flags : ℕ) → Leaves (arrived_at Dropped s m frame flags) (dropped s) m

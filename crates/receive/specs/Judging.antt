@@ -7,13 +7,14 @@
 --   Leaves w t m          the state t and the memory m are those of the world w
 --   dropped s             the state s after one more dropped frame
 -- Assumes nothing.
-use Rattle.std.specs.Prelude.{if◌then◌else◌, ◌≡◌, ℕ, ◌+◌, ◌-◌, ◌<◌, ◌≤◌, not, ◌&&◌, List}
+use Rattle.std.specs.Prelude.{if◌then◌else◌, ◌≡◌, ℕ, ◌+◌, ◌-◌, ◌<◌, ◌≤◌, not, ◌&&◌, List, Ok}
 use Rattle.paper.specs.declared.Registers.{Registers}
 use Rattle.paper.specs.declared.State.{State}
 use Rattle.paper.specs.declared.Arrival.{Arrival}
 use Rattle.paper.specs.declared.Arrival.TheVariants.{Discarded, Filtered}
 use Rattle.paper.specs.Words.{bit}
-use Rattle.paper.specs.Memory.{RxData, RxStatus, size}
+use Rattle.paper.specs.declared.Fifo.TheVariants.{RxData, RxStatus}
+use Rattle.paper.specs.Memory.{size}
 use Rattle.paper.specs.Registers.{RXALL, one_more, with_drops}
 use Rattle.paper.specs.Filter.{passes}
 use Rattle.paper.specs.Status.{Look, look, kept}

@@ -8,7 +8,8 @@ mod judge;
 mod status;
 
 ghost use Rattle.std.specs.Prelude.{◌≡◌, ◌<◌, [], ◌∷◌, length};
-ghost use Rattle.paper.specs.Memory.{RxData, RxStatus, size, base, puts};
+ghost use Rattle.paper.specs.declared.Fifo.TheVariants.{RxData, RxStatus};
+ghost use Rattle.paper.specs.Memory.{size, base, puts};
 ghost use Rattle.paper.specs.Status.{look};
 ghost use Rattle.paper.specs.Arrivals.{data_words, arrival_answer};
 ghost use Rattle.paper.specs.Calls.{Arrive};

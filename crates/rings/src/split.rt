@@ -1,7 +1,8 @@
 // The words of each FIFO, and its first word in the lent memory, for TX_FIF_SZ n, 2 to 14. Paper 01, Memory, the table of words.
 // TX data starts at word 0.
 ghost use Rattle.std.specs.Prelude.{◌≡◌, ◌≤◌};
-ghost use Rattle.paper.specs.Memory.{TxData, TxStatus, RxData, RxStatus, size, base};
+ghost use Rattle.paper.specs.declared.Fifo.TheVariants.{TxData, TxStatus, RxData, RxStatus};
+ghost use Rattle.paper.specs.Memory.{size, base};
 
 // 01: "TX data | 256n - 128".
 pub fn tx_data_size(n: u32) -> u32

@@ -1,6 +1,7 @@
 // Status words and level words put together (01, An arriving frame, "RX status"; Words for transmission, its last paragraph; Registers).
 ghost use Rattle.std.specs.Prelude.{◌≡◌, true, ◌-◌, ◌≤◌};
-ghost use Rattle.paper.specs.Memory.{TxData, size};
+ghost use Rattle.paper.specs.declared.Fifo.TheVariants.{TxData};
+ghost use Rattle.paper.specs.Memory.{size};
 ghost use Rattle.paper.specs.Registers.{rx_fifo_inf, tx_fifo_inf};
 ghost use Rattle.paper.specs.Sending.{good_outcome, tx_status};
 ghost use Rattle.words.specs.Status.{has_error, outcome_error, status_of, TxLevels};

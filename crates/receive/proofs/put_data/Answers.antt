@@ -1,6 +1,6 @@
 use Rattle.std.proofs.Common.{length}
 use Rattle.paper.specs.Arrivals.{words_for}
-use Rattle.paper.specs.Memory.{RxData}
+use Rattle.paper.specs.declared.Fifo.TheVariants.{RxData}
 use Rattle.entry.proofs.Parts.{split_range, words_fit}
 use Rattle.receive.proofs.put_data.Goals as goal
 

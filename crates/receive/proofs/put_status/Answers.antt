@@ -1,5 +1,5 @@
 use Rattle.std.proofs.Common.{arith}
-use Rattle.paper.specs.Memory.{RxStatus}
+use Rattle.paper.specs.declared.Fifo.TheVariants.{RxStatus}
 use Rattle.entry.proofs.Parts.{split_range, words_fit}
 use Rattle.receive.proofs.put_status.Goals as goal
 

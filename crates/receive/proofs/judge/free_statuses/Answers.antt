@@ -1,6 +1,6 @@
 -- No more words wait than the ring holds.
 use Rattle.std.proofs.Common.{arith}
-use Rattle.paper.specs.Memory.{RxStatus}
+use Rattle.paper.specs.declared.Fifo.TheVariants.{RxStatus}
 use Rattle.entry.proofs.Parts.{split_range, in_ring}
 use Rattle.receive.proofs.judge.free_statuses.Goals as goal
 
