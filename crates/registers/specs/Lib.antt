@@ -1,2 +1,3 @@
 -- Definitions that the contracts of registers cite beside those of paper.
 pub mod States
+pub mod Tells

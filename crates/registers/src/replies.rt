@@ -2,27 +2,7 @@
 ghost use Rattle.std.specs.Prelude.{◌≡◌};
 ghost use Rattle.registers.specs.States.{with_registers, resized, without_packets};
 
-use paper::{Answer, Control, Refusal, Registers, Reply, State};
-
-// A call refused: the state as it was.
-pub fn refused(k: Refusal, s: State) -> Reply
-    ensures { result ≡ record { answer = Answer.Refused k; state = s } }
-{
-    Reply {
-        answer: Answer::Refused(k),
-        state: s,
-    }
-}
-
-// A call done: its value, and the state after it.
-pub fn answered(v: u32, s: State) -> Reply
-    ensures { result ≡ record { answer = Answer.Value v; state = s } }
-{
-    Reply {
-        answer: Answer::Value(v),
-        state: s,
-    }
-}
+use paper::{Control, Registers, Ring, State};
 
 // The state with other registers.
 pub fn with_registers(registers: Registers, s: State) -> State
@@ -47,7 +27,7 @@ pub fn resized(n: u32, s: State) -> State
     let mut registers = control.registers;
     registers.n = n;
     let port = control.port;
-    let empty = rings::empty();
+    let empty = Ring::empty();
     State {
         control: Control {
             registers: registers,
@@ -75,6 +55,6 @@ pub fn without_packets(s: State) -> State
     };
     let mut t = s;
     t.control = changed;
-    t.txdata = rings::empty();
+    t.txdata = Ring::empty();
     t
 }
