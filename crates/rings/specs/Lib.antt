@@ -1,2 +1,3 @@
 -- What the functions of this crate ask and leave, in the names of `paper`.
 pub mod Rings
+pub mod Parts

@@ -4,29 +4,24 @@
 --   Waits       the k oldest words wait
 --   InReach     word i, the oldest being word 0, can be asked for; it need not wait
 --   Changed     the ring q and the memory m' are what a change makes of r and m
---   Near, Placed    the same for place_of: a word's number whose place can be computed; the place, and that it lies in the ring's part
--- The bounds of 4096 are those of the lent memory, and keep sums within 32 bits.
+--   Placed      the place of word k, and that it lies in the ring's part
+-- That a part lies in the 4,096 words is the invariant of `Part`; numbers of words up to 4096 and 8192 keep sums within 32 bits.
 -- Assumes nothing.
 use Rattle.std.specs.Prelude.{◌≡◌, List, ℕ, ◌+◌, ◌≤◌, ◌<◌}
 use Rattle.paper.specs.declared.Ring.{Ring}
 use Rattle.paper.specs.Memory.{place, Change, ring_after, memory_after}
 
 pub record HasRoom (base size at count words len : ℕ) : Type 0 where
-  pub low : base ≤ 4096
-  pub small : size ≤ 4096
   pub inside : base + size ≤ len
   pub oldest : at < size
   pub room : count + words ≤ size
 
 pub record Waits (size at count k : ℕ) : Type 0 where
-  pub small : size ≤ 4096
   pub oldest : at < size
   pub held : count ≤ size
   pub there : k ≤ count
 
 pub record InReach (base size at i len : ℕ) : Type 0 where
-  pub low : base ≤ 4096
-  pub small : size ≤ 4096
   pub inside : base + size ≤ len
   pub oldest : at < size
   pub near : i ≤ 4096
@@ -34,12 +29,6 @@ pub record InReach (base size at i len : ℕ) : Type 0 where
 pub record Changed (base size : ℕ) (c : Change) (r q : Ring) (m m' : List ℕ) : Type 0 where
   pub ring : q ≡ ring_after size c r
   pub memory : m' ≡ memory_after base size c r m
-
-pub record Near (base size k : ℕ) : Type 0 where
-  pub low : base ≤ 4096
-  pub some : 0 < size
-  pub small : size ≤ 4096
-  pub near : k ≤ 8192
 
 pub record Placed (base size k p : ℕ) : Type 0 where
   pub spot : p ≡ place base size k
