@@ -48,15 +48,13 @@ module _ (f : Fifo) (s : State) (m : List ℕ) (e : Entered s m) where
   pub some_wait : Waits (size f (split_of s)) (ring f s).at (ring f s).count 0
   some_wait =
       let r = in_ring s e.range f in
-      record { small = omega (arith, part_inside, e.lent); oldest = r.at_lt; held = r.count_le; there = omega arith }
+      record { oldest = r.at_lt; held = r.count_le; there = omega arith }
 
   -- Words for which there is room can be put.
   pub words_fit : (k : ℕ) → (ring f s).count + k ≤ size f (split_of s)
       → HasRoom (base f (split_of s)) (size f (split_of s)) (ring f s).at (ring f s).count k (length m)
   words_fit k h =
       record {
-        low = omega (arith, part_inside, e.lent);
-        small = omega (arith, part_inside, e.lent);
         inside = part_inside;
         oldest = (in_ring s e.range f).at_lt;
         room = h;

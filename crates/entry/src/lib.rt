@@ -1,23 +1,21 @@
 // The test that every call makes first: 14, then the ranges of 15 (01, Refusal numbers: "Order: 14, 15 (ranges), then …").
+//   sound     a state that passed, for the calls behind it
 //   values    the register values that a write accepts
 //   port      what the transmit port holds
 #![tactic(auto)]
 
-ghost use Rattle.std.specs.Prelude.{◌≡◌, ◌≤◌, true, MatchResult, Some, None, Err, Ok};
+ghost use Rattle.std.specs.Prelude.{◌≡◌, MatchResult, Some, None, Err, Ok};
 ghost use Rattle.paper.specs.Refusals.{ring_in_range, rings_in_range, whole_in_range, in_range};
 ghost use Rattle.entry.specs.Entry.{entry_of};
 
-use paper::{Refusal, Reply, Ring, State};
+use paper::{Fifo, Refusal, Reply, Ring, State};
+use rings::split::Split;
 
 pub mod port;
+pub mod sound;
 pub mod values;
 
-// A state of which each number is in its range.
-#[derive(Clone, Copy)]
-pub struct Sound {
-    pub state: State,
-    pub ghost range: { in_range state ≡ true },
-}
+pub use sound::Sound;
 
 // 01: "places below the FIFO's size, counts at most the size"
 fn ring_in_range(size: u32, r: Ring) -> bool
@@ -27,15 +25,13 @@ fn ring_in_range(size: u32, r: Ring) -> bool
 }
 
 // The four FIFOs, each by its own size.
-fn rings_in_range(n: u32, s: State) -> bool
-    requires { (2 ≤ n) × (n ≤ 14) }
-    ensures { result ≡ rings_in_range n s }
+fn rings_in_range(split: Split, s: State) -> bool
+    ensures { result ≡ rings_in_range split.n s }
 {
-    let txdata = ring_in_range(rings::split::tx_data_size(n), s.txdata);
-    let txstatus = ring_in_range(rings::split::tx_status_size(), s.txstatus);
-    let rxdata = ring_in_range(rings::split::rx_data_size(n), s.rxdata);
-    let rxstatus = ring_in_range(rings::split::rx_status_size(n), s.rxstatus);
-    txdata & txstatus & rxdata & rxstatus
+    ring_in_range(split.size(Fifo::TxData), s.txdata)
+        & ring_in_range(split.size(Fifo::TxStatus), s.txstatus)
+        & ring_in_range(split.size(Fifo::RxData), s.rxdata)
+        & ring_in_range(split.size(Fifo::RxStatus), s.rxstatus)
 }
 
 // 01: "whole packets at most a third of the words held". By a division, for three times any number need not fit a word.
@@ -49,40 +45,39 @@ fn whole_in_range(whole: u32, held: u32) -> bool
 pub fn in_range(s: State) -> bool
     ensures { result ≡ in_range s }
 {
-    let control = s.control;
-    let registers = control.registers;
+    let registers = s.control.registers;
     if !values::good_registers(registers) {
         return false;
     }
-    let port = control.port;
-    let expect = port.expect;
-    let fifos = rings_in_range(registers.n, s);
-    let expected = port::expect_in_range(expect);
+    let port = s.control.port;
+    let fifos = rings_in_range(Split { n: registers.n }, s);
+    let expected = port::expect_in_range(port.expect);
     fifos & expected & whole_in_range(port.whole, s.txdata.count)
 }
 
-// Whether a call may go on, with this state and a lent memory of len words: 14, then 15.
-pub fn enter(s: State, len: usize) -> Result<Sound, Refusal>
-    ensures { MatchResult result (λ x. (x.state ≡ s) × (entry_of s len ≡ None)) (λ k. entry_of s len ≡ Some k) }
+// Whether a call may go on, with this state and a lent memory of so many words: 14, then 15.
+pub fn enter(s: State, words: usize) -> Result<Sound, Refusal>
+    ensures { MatchResult result (λ x. (x.state ≡ s) × (entry_of s words ≡ None)) (λ k. entry_of s words ≡ Some k) }
 {
     let ranges = in_range(s);
-    if len != 4096 {
+    if words != 4096 {
         return Err(Refusal::MemoryLength);
     }
-    if !ranges {
-        return Err(Refusal::OutOfRange);
+    if ranges {
+        Ok(Sound { state: s })
+    } else {
+        Err(Refusal::OutOfRange)
     }
-    Ok(Sound { state: s })
 }
 
-// Makes a call that needs a sound state, with a lent memory of so many words; refused so where the test refuses.
+// Makes a call that needs a sound state; where the test refuses, it is refused so, and the state is as it was.
 pub fn entered<T, F: FnOnce(Sound) -> Reply<T>>(s: State, words: usize, call: F) -> Reply<T>
     requires { (x : Sound) → x.state ≡ s → entry_of s words ≡ None → F.pre call x }
     ensures shut { (k : Refusal) → entry_of s words ≡ Some k → result ≡ record { answer = Err k; state = s } }
     ensures clear { entry_of s words ≡ None → (x : Sound) × (x.state ≡ s) × F.post call x result }
 {
     match enter(s, words) {
-        Err(k) => Reply::refused(k, s),
         Ok(x) => call(x),
+        Err(k) => Reply::refused(k, s),
     }
 }

@@ -4,12 +4,13 @@ ghost use Rattle.std.specs.Prelude.{◌≡◌};
 ghost use Rattle.paper.specs.Refusals.{a_in_range, known_in_range, packet_in_range, awaits_b, is_known, expect_in_range};
 
 use paper::{Expect, Packet};
+use words::fields;
 
 // A first B held, with the sizes so far.
 fn known_in_range(b: u32, sizes: u32) -> bool
     ensures { result ≡ known_in_range b sizes }
 {
-    words::fields::good_length(b) & (sizes <= words::fields::packet_length(b))
+    fields::good_length(b) & (sizes <= fields::packet_length(b))
 }
 
 // An open packet's first B and sizes; a packet with no B yet holds nothing to judge.
@@ -17,8 +18,7 @@ fn packet_in_range(p: Packet) -> bool
     ensures { result ≡ packet_in_range p }
 {
     match p {
-        Packet::Closed => true,
-        Packet::Opened => true,
+        Packet::Closed | Packet::Opened => true,
         Packet::Known { b, sizes } => known_in_range(b, sizes),
     }
 }
@@ -27,22 +27,14 @@ fn packet_in_range(p: Packet) -> bool
 fn awaits_b(p: Packet) -> bool
     ensures { result ≡ awaits_b p }
 {
-    match p {
-        Packet::Closed => false,
-        Packet::Opened => true,
-        Packet::Known { b: _, sizes: _ } => false,
-    }
+    matches!(p, Packet::Opened)
 }
 
 // The packet's first B is known.
 fn is_known(p: Packet) -> bool
     ensures { result ≡ is_known p }
 {
-    match p {
-        Packet::Closed => false,
-        Packet::Opened => false,
-        Packet::Known { b: _, sizes: _ } => true,
-    }
+    matches!(p, Packet::Known { .. })
 }
 
 // The A of a buffer whose B is to come: the first of its packet, or a later one.
@@ -51,8 +43,8 @@ fn a_in_range(p: Packet, a: u32) -> bool
 {
     match p {
         Packet::Closed => false,
-        Packet::Opened => words::fields::good_a(false, a),
-        Packet::Known { b: _, sizes: _ } => words::fields::good_a(true, a),
+        Packet::Opened => fields::good_a(false, a),
+        Packet::Known { .. } => fields::good_a(true, a),
     }
 }
 
@@ -62,8 +54,8 @@ fn payload_in_range(a: u32, left: u32, packet: Packet) -> bool
     ensures { result ≡ expect_in_range (Expect.Payload a left packet) }
 {
     let open = is_known(packet) & packet_in_range(packet);
-    let good = words::fields::good_a(!words::fields::is_first(a), a);
-    open & good & (1 <= left) & (left <= words::fields::host_words(a))
+    let good = fields::good_a(!fields::is_first(a), a);
+    open & good & (1 <= left) & (left <= fields::host_words(a))
 }
 
 // What the port expects next is in its range.

@@ -3,6 +3,7 @@ ghost use Rattle.std.specs.Prelude.{◌≡◌};
 ghost use Rattle.paper.specs.Registers.{good_n, good_addrh, good_maccr, good_registers};
 
 use paper::Registers;
+use words::fields;
 
 // 01: "TX_FIF_SZ is n, 2 to 14"
 pub fn good_n(n: u32) -> bool
@@ -22,8 +23,8 @@ pub fn good_addrh(v: u32) -> bool
 pub fn good_maccr(v: u32) -> bool
     ensures { result ≡ good_maccr v }
 {
-    let carried = words::fields::only_carried(v);
-    let k = words::fields::setting_number(v);
+    let carried = fields::only_carried(v);
+    let k = fields::setting_number(v);
     carried & filter::setting_at(k as usize).is_some()
 }
 

@@ -20,8 +20,10 @@ pub returns-then-not-good_registers : goal.returns-then-not-good_registers
 unfolding in_range
 returns-then-not-good_registers c = simp (sym c.good_registers.ensures ∙ c.if-not-good_registers.true)
 
-pub rings_in_range-fifos-requires : goal.rings_in_range-fifos-requires
-rings_in_range-fifos-requires c = split_bounds _ (sym c.good_registers.ensures ∙ c.if-not-good_registers.false)
+pub invariant_of-rings_in_range : goal.invariant_of-rings_in_range
+invariant_of-rings_in_range c =
+    let n = split_bounds _ (sym c.good_registers.ensures ∙ c.if-not-good_registers.false) in
+    record { least = n.0; most = n.1 }
 
 -- good ones
 pub returns : goal.returns
