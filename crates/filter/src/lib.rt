@@ -1,8 +1,8 @@
-// The receive filter: the table of the 32 settings, and what it says of a frame (paper 01, An arriving frame, "Filter"). A frame is lent whole and has at
-// least 14 bytes; the filter looks at the first six of them.
+// The receive filter: the table of the 32 settings, and what it says of a frame (paper 01, An arriving frame, "Filter"). The frame's head is lent; the filter
+// looks at its first six bytes, the destination.
 #![tactic(auto)]
 
-ghost use Rattle.std.specs.Prelude.{if◌then◌else◌, ◌≡◌, ◌≤◌, ◌<◌, length, take, get_or, None};
+ghost use Rattle.std.specs.Prelude.{if◌then◌else◌, ◌≡◌, ◌<◌, get_or, None};
 ghost use Rattle.paper.specs.Words.{bit, same};
 ghost use Rattle.paper.specs.Registers.{settings, setting_of};
 ghost use Rattle.paper.specs.Filter.{
@@ -15,91 +15,67 @@ ghost use Rattle.paper.specs.Filter.{
   passes_setting,
   passes,
 };
-ghost use Rattle.filter.specs.Address.{address_of};
 
 use paper::{Registers, Rule, Rules, Setting};
-use words::bytes::word_at;
 use words::fields::{bit_is_set, setting_number};
 
-// By (MCPAS, PRMS, INVFILT, HO, HPFILT), MCPAS the highest: the rules, or undefined.
+// A frame's head: the fourteen bytes of destination, source, and length or type.
+pub type Head = [u8; 14];
+
+// The pairs of rules in 01's table: that for group addresses, then that for individual ones, or one word for both.
+const EQUAL: Setting = Some(Rules {
+    group: Rule::Equal,
+    individual: Rule::Equal,
+});
+
+const HASH_EQUAL: Setting = Some(Rules {
+    group: Rule::Hash,
+    individual: Rule::Equal,
+});
+
+const HASH: Setting = Some(Rules {
+    group: Rule::Hash,
+    individual: Rule::Hash,
+});
+
+const NOT_EQUAL: Setting = Some(Rules {
+    group: Rule::NotEqual,
+    individual: Rule::NotEqual,
+});
+
+const PASS: Setting = Some(Rules {
+    group: Rule::Pass,
+    individual: Rule::Pass,
+});
+
+const PASS_EQUAL: Setting = Some(Rules {
+    group: Rule::Pass,
+    individual: Rule::Equal,
+});
+
+const PASS_HASH: Setting = Some(Rules {
+    group: Rule::Pass,
+    individual: Rule::Hash,
+});
+
+// By (MCPAS, PRMS, INVFILT, HO, HPFILT), MCPAS the highest: the rules, or undefined. The first three stand above a line, the last two count along it.
 pub const SETTINGS: [Setting; 32] = [
-    Some(Rules {
-        group: Rule::Equal,
-        individual: Rule::Equal,
-    }),
-    Some(Rules {
-        group: Rule::Hash,
-        individual: Rule::Equal,
-    }),
-    None,
-    Some(Rules {
-        group: Rule::Hash,
-        individual: Rule::Hash,
-    }),
-    Some(Rules {
-        group: Rule::NotEqual,
-        individual: Rule::NotEqual,
-    }),
-    None,
-    None,
-    None,
-    Some(Rules {
-        group: Rule::Pass,
-        individual: Rule::Pass,
-    }),
-    Some(Rules {
-        group: Rule::Pass,
-        individual: Rule::Pass,
-    }),
-    Some(Rules {
-        group: Rule::Pass,
-        individual: Rule::Pass,
-    }),
-    Some(Rules {
-        group: Rule::Pass,
-        individual: Rule::Pass,
-    }),
-    None,
-    None,
-    None,
-    None,
-    Some(Rules {
-        group: Rule::Pass,
-        individual: Rule::Equal,
-    }),
-    Some(Rules {
-        group: Rule::Pass,
-        individual: Rule::Equal,
-    }),
-    None,
-    Some(Rules {
-        group: Rule::Pass,
-        individual: Rule::Hash,
-    }),
-    None,
-    None,
-    None,
-    None,
-    Some(Rules {
-        group: Rule::Pass,
-        individual: Rule::Pass,
-    }),
-    Some(Rules {
-        group: Rule::Pass,
-        individual: Rule::Pass,
-    }),
-    Some(Rules {
-        group: Rule::Pass,
-        individual: Rule::Pass,
-    }),
-    Some(Rules {
-        group: Rule::Pass,
-        individual: Rule::Pass,
-    }),
-    None,
-    None,
-    None,
-    None,
+    // 0 0 0
+    EQUAL, HASH_EQUAL, None, HASH,
+    // 0 0 1
+    NOT_EQUAL, None, None, None,
+    // 0 1 0
+    PASS, PASS, PASS, PASS,
+    // 0 1 1
+    None, None, None, None,
+    // 1 0 0
+    PASS_EQUAL, PASS_EQUAL, None, PASS_HASH,
+    // 1 0 1
+    None, None, None, None,
+    // 1 1 0
+    PASS, PASS, PASS, PASS,
+    // 1 1 1
+    None, None, None, None,
 ];
 
 // The setting with number k.
@@ -118,36 +94,36 @@ pub fn setting_of(maccr: u32) -> Setting
     setting_at(setting_number(maccr) as usize)
 }
 
-// The destination is the address whose first four bytes are low and whose last two are the low half of high, the first byte lowest in each.
-fn is_address(frame: &[u8], low: u32, high: u32) -> bool
-    requires { 14 ≤ length frame.now }
-    ensures { result ≡ same (destination (take 14 frame.now)) (address_of low high) }
+// 01: "Our address, in wire order, is ADDRL bits 7-0, 15-8, 23-16, 31-24, ADDRH bits 7-0, 15-8."
+fn ours(r: Registers) -> [u8; 6]
+    ensures { result ≡ ours r }
 {
-    (word_at(frame, 0) == low) & (word_at(frame, 4) & 0xFFFF == high & 0xFFFF)
+    let [a, b, c, d] = r.addrl.to_le_bytes();
+    let [e, f, _, _] = r.addrh.to_le_bytes();
+    [a, b, c, d, e, f]
 }
 
 // 01: "Destination FFFFFFFFFFFFh".
-pub fn is_broadcast(frame: &[u8]) -> bool
-    requires { 14 ≤ length frame.now }
-    ensures { result ≡ is_broadcast (take 14 frame.now) }
+#[tactic(auto, using(crate::proofs::Address::same_bytes))]
+pub fn is_broadcast(head: &Head) -> bool
+    ensures { result ≡ is_broadcast head.now }
 {
-    is_address(frame, 0xFFFF_FFFF, 0xFFFF)
+    head[..6] == [0xFF; 6]
 }
 
 // 01: "A group address has bit 0 of its first byte set." A broadcast is one too.
-pub fn is_group(frame: &[u8]) -> bool
-    requires { 14 ≤ length frame.now }
-    ensures { result ≡ is_group (take 14 frame.now) }
+pub fn is_group(head: &Head) -> bool
+    ensures { result ≡ is_group head.now }
 {
-    bit_is_set(0, frame[0] as u32)
+    bit_is_set(0, u32::from(head[0]))
 }
 
 // The destination is our address.
-pub fn is_ours(r: Registers, frame: &[u8]) -> bool
-    requires { 14 ≤ length frame.now }
-    ensures { result ≡ same (destination (take 14 frame.now)) (ours r) }
+#[tactic(auto, using(crate::proofs::Address::same_bytes))]
+pub fn is_ours(r: Registers, head: &Head) -> bool
+    ensures { result ≡ same (destination head.now) (ours r) }
 {
-    is_address(frame, r.addrl, r.addrh)
+    head[..6] == ours(r)[..]
 }
 
 // 01: "the highest chooses HASHH (1) or HASHL (0)".
@@ -162,24 +138,23 @@ fn hash_word(r: Registers, hash: u32) -> u32
 }
 
 // 01: "the other five, x^30 the highest, number the bit, 0 to 31; pass if it is 1".
-pub fn in_hash(r: Registers, frame: &[u8]) -> bool
-    requires { 14 ≤ length frame.now }
-    ensures { result ≡ in_hash r (destination (take 14 frame.now)) }
+pub fn in_hash(r: Registers, head: &Head) -> bool
+    ensures { result ≡ in_hash r (destination head.now) }
 {
-    let hash = checksum::hash_of(&frame[..6]);
+    let hash = checksum::hash_of(&head[..6]);
     bit_is_set(hash % 32, hash_word(r, hash))
 }
 
 // The destination passes under one rule of the table.
+// Registers and head stay two arguments here and below, as in paper's definitions: a struct of both would only be taken apart again.
 #[tactic(auto, unfolding(paper::specs::Filter::passes_rule))]
-pub fn passes_rule(rule: Rule, r: Registers, frame: &[u8]) -> bool
-    requires { 14 ≤ length frame.now }
-    ensures { result ≡ passes_rule rule r (destination (take 14 frame.now)) }
+pub fn passes_rule(rule: Rule, r: Registers, head: &Head) -> bool
+    ensures { result ≡ passes_rule rule r (destination head.now) }
 {
     match rule {
-        Rule::Equal => is_ours(r, frame),
-        Rule::NotEqual => !is_ours(r, frame),
-        Rule::Hash => in_hash(r, frame),
+        Rule::Equal => is_ours(r, head),
+        Rule::NotEqual => !is_ours(r, head),
+        Rule::Hash => in_hash(r, head),
         Rule::Pass => true,
     }
 }
@@ -187,29 +162,27 @@ pub fn passes_rule(rule: Rule, r: Registers, frame: &[u8]) -> bool
 // The destination, if no broadcast, passes under a setting: by the rule for group addresses, or by that for individual ones. None passes where the setting
 // is undefined.
 #[tactic(auto, unfolding(paper::specs::Filter::passes_setting))]
-fn passes_setting(setting: Setting, r: Registers, frame: &[u8]) -> bool
-    requires { 14 ≤ length frame.now }
-    ensures { result ≡ passes_setting setting r (take 14 frame.now) }
+fn passes_setting(setting: Setting, r: Registers, head: &Head) -> bool
+    ensures { result ≡ passes_setting setting r head.now }
 {
     let Some(rules) = setting else {
         return false;
     };
-    let rule = if is_group(frame) {
+    let rule = if is_group(head) {
         rules.group
     } else {
         rules.individual
     };
-    passes_rule(rule, r, frame)
+    passes_rule(rule, r, head)
 }
 
 // The filter says yes (01: "Destination FFFFFFFFFFFFh passes exactly when BCAST is clear, in every mode (ours). Otherwise, by .. the setting").
 #[tactic(auto, unfolding(paper::specs::Filter::passes))]
-pub fn passes(r: Registers, frame: &[u8]) -> bool
-    requires { 14 ≤ length frame.now }
-    ensures { result ≡ passes r (take 14 frame.now) }
+pub fn passes(r: Registers, head: &Head) -> bool
+    ensures { result ≡ passes r head.now }
 {
-    if is_broadcast(frame) {
+    if is_broadcast(head) {
         return !bit_is_set(11, r.maccr);
     }
-    passes_setting(setting_of(r.maccr), r, frame)
+    passes_setting(setting_of(r.maccr), r, head)
 }

@@ -1,2 +1,0 @@
--- What the contracts of filter cite beside the definitions of paper.
-pub mod Address
