@@ -1,7 +1,7 @@
 // Whether setting n, or a dump, is allowed now (01, Registers, its last paragraph).
 ghost use Rattle.std.specs.Prelude.{◌≡◌, not, ◌<◌};
 ghost use Rattle.paper.specs.Words.{bit};
-ghost use Rattle.paper.specs.Registers.{is_closed, expects_first, is_idle, may_resize, may_dump_tx_data, may_dump_rx};
+ghost use Rattle.paper.specs.Registers.{is_idle, may_resize, may_dump_tx_data, may_dump_rx};
 ghost use Rattle.registers.specs.States.{levels_of};
 
 use paper::{Expect, Packet, Port, Registers, State};
@@ -34,50 +34,22 @@ pub fn may_dump_rx(r: Registers) -> bool
     is_clear(RXEN, r.maccr)
 }
 
-// No packet is open.
-fn is_closed(p: Packet) -> bool
-    ensures { result ≡ is_closed p }
-{
-    match p {
-        Packet::Closed => true,
-        Packet::Opened => false,
-        Packet::Known { b: _, sizes: _ } => false,
-    }
-}
-
-// The port expects an A with no packet open.
-fn expects_first(e: Expect) -> bool
-    ensures { result ≡ expects_first e }
-{
-    match e {
-        Expect::CommandA(packet) => is_closed(packet),
-        Expect::CommandB { a: _, packet: _ } => false,
-        Expect::Payload {
-            a: _,
-            left: _,
-            packet: _,
-        } => false,
-    }
-}
-
 // 01: "no transmit buffer or packet is open and no transmit error stands"
 fn is_idle(p: Port) -> bool
     ensures { result ≡ is_idle p }
 {
-    let expect = p.expect;
-    expects_first(expect) & !p.failed
+    matches!(p.expect, Expect::CommandA(Packet::Closed)) & !p.failed
 }
 
 // 01: "only if all four FIFOs are empty, TXEN and RXEN are clear, no transmit buffer or packet is open and no transmit error stands"
+#[tactic(auto, unfolding(paper::specs::Registers::may_resize))]
 pub fn may_resize(s: State) -> bool
     ensures { result ≡ may_resize s.control.registers s.control.port (levels_of s) }
 {
-    let control = s.control;
-    let maccr = control.registers.maccr;
-    let port = control.port;
+    let maccr = s.control.registers.maccr;
     let empty = (s.txdata.count == 0)
         & (s.txstatus.count == 0)
         & (s.rxdata.count == 0)
         & (s.rxstatus.count == 0);
-    empty & is_clear(TXEN, maccr) & is_clear(RXEN, maccr) & is_idle(port)
+    empty & is_clear(TXEN, maccr) & is_clear(RXEN, maccr) & is_idle(s.control.port)
 }

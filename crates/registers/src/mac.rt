@@ -1,57 +1,92 @@
 // The MAC registers by number: 1 MAC_CR, 2 ADDRH, 3 ADDRL, 4 HASHH, 5 HASHL (01, Registers).
 ghost use Rattle.std.specs.Prelude.{◌≡◌};
-ghost use Rattle.paper.specs.Registers.{is_register, good_value, read_register, write_register};
+ghost use Rattle.paper.specs.Registers.{read_register, write_register};
+ghost use Rattle.registers.specs.Mac.{number_of, Numbered, checked, read_of, written_of};
 
-use paper::Registers;
+use paper::{Refusal, Registers};
 
-// There is a MAC register k.
-pub fn is_register(k: u32) -> bool
-    ensures { result ≡ is_register k }
-{
-    (1 <= k) & (k <= 5)
+// A MAC register.
+#[derive(Clone, Copy)]
+enum MacRegister {
+    MacCr,
+    Addrh,
+    Addrl,
+    Hashh,
+    Hashl,
 }
 
-// A write of v to register k is no bad value.
-pub fn good_value(k: u32, v: u32) -> bool
-    ensures { result ≡ good_value k v }
-{
-    if k == 1 {
-        return entry::values::good_maccr(v);
-    }
-    if k == 2 {
-        return entry::values::good_addrh(v);
-    }
-    true
-}
+// The register of a number; no such register for any other.
+impl TryFrom<u32> for MacRegister {
+    type Error = Refusal;
 
-// Register k, as stored; 0 where there is none.
-#[tactic(auto, unfolding(paper::specs::Registers::read_register))]
-pub fn read_register(k: u32, r: Registers) -> u32
-    ensures { result ≡ read_register k r }
-{
-    match k {
-        1 => r.maccr,
-        2 => r.addrh,
-        3 => r.addrl,
-        4 => r.hashh,
-        5 => r.hashl,
-        _ => 0,
+    ghost try_from_gives = { Numbered };
+
+    fn try_from(k: u32) -> Result<Self, Refusal> {
+        match k {
+            1 => Ok(MacRegister::MacCr),
+            2 => Ok(MacRegister::Addrh),
+            3 => Ok(MacRegister::Addrl),
+            4 => Ok(MacRegister::Hashh),
+            5 => Ok(MacRegister::Hashl),
+            _ => Err(Refusal::NoRegister),
+        }
     }
 }
 
-// The registers after a write of v to register k; the same where there is none.
-#[tactic(auto, unfolding(paper::specs::Registers::write_register))]
-pub fn write_register(k: u32, v: u32, r: Registers) -> Registers
-    ensures { result ≡ write_register k v r }
-{
-    let mut q = r;
-    match k {
-        1 => q.maccr = v,
-        2 => q.addrh = v,
-        3 => q.addrl = v,
-        4 => q.hashh = v,
-        5 => q.hashl = v,
-        _ => {}
+impl MacRegister {
+    // A write of v is no bad value.
+    fn check(self, v: u32) -> Result<(), Refusal>
+        ensures { result ≡ checked (number_of self) v }
+    {
+        let good = match self {
+            MacRegister::MacCr => entry::values::good_maccr(v),
+            MacRegister::Addrh => entry::values::good_addrh(v),
+            _ => true,
+        };
+        if good { Ok(()) } else { Err(Refusal::BadValue) }
     }
-    q
+
+    // The register, as stored.
+    #[tactic(auto, unfolding(paper::specs::Registers::read_register))]
+    fn read(self, r: Registers) -> u32
+        ensures { result ≡ read_register (number_of self) r }
+    {
+        match self {
+            MacRegister::MacCr => r.maccr,
+            MacRegister::Addrh => r.addrh,
+            MacRegister::Addrl => r.addrl,
+            MacRegister::Hashh => r.hashh,
+            MacRegister::Hashl => r.hashl,
+        }
+    }
+
+    // The registers after a write of v.
+    #[tactic(auto, unfolding(paper::specs::Registers::write_register))]
+    fn written(self, v: u32, r: Registers) -> Registers
+        ensures { result ≡ write_register (number_of self) v r }
+    {
+        match self {
+            MacRegister::MacCr => Registers { maccr: v, ..r },
+            MacRegister::Addrh => Registers { addrh: v, ..r },
+            MacRegister::Addrl => Registers { addrl: v, ..r },
+            MacRegister::Hashh => Registers { hashh: v, ..r },
+            MacRegister::Hashl => Registers { hashl: v, ..r },
+        }
+    }
+}
+
+// Register k, as stored; or the refusal of a read.
+pub fn read(k: u32, r: Registers) -> Result<u32, Refusal>
+    ensures { result ≡ read_of k r }
+{
+    Ok(MacRegister::try_from(k)?.read(r))
+}
+
+// The registers after a write of v to register k; or the refusal of it.
+pub fn written(k: u32, v: u32, r: Registers) -> Result<Registers, Refusal>
+    ensures { result ≡ written_of k v r }
+{
+    let register = MacRegister::try_from(k)?;
+    register.check(v)?;
+    Ok(register.written(v, r))
 }
