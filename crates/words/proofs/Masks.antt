@@ -1,62 +1,37 @@
--- Masks: a word and a mask give the bits that the mask's list numbers.
---   mask_of is      the mask of the bits that the list numbers
---   falls top is    the numbers are below top, each below the one before it
---   mask_bound      such a mask is below 2^top
---   and_bit         a mask's highest bit apart
---   mask_gathers    v and a mask are the bits of v that its list numbers
+-- Masks: a word and a mask are the bits of the word that the mask has.
+--   mask_gathers    below bit k, v and a mask are the bits of v that the mask's bits number
 --   mask_only       v keeps all its bits under a mask exactly where it has no other bit set
 -- Assumes nothing.
-use mathlib.Core.Path.{◌≡◌, sym, ap, ap₂, ◌∙◌}
-use mathlib.Core.Bool.{Bool, true, ◌&&◌}
-use mathlib.Core.List.{List, [], ◌∷◌}
-use Prim.Native.Nat.{ℕ, suc, ◌+◌, ◌*◌, ◌/◌, ◌%◌, ◌^◌, ◌≤◌, ◌<◌}
-use native.Mathlib.Nat.{mod-lt, mod-eq_of_lt, lt_of_le_of_lt, one-mul, pow-suc}
+use mathlib.Core.Path.{◌≡◌, refl, sym, ap, ap₂, ◌∙◌}
+use Prim.Native.Nat.{ℕ, zero, suc, ◌+◌, ◌*◌, ◌%◌, ◌^◌, ◌<◌}
+use native.Mathlib.Nat.{mod-lt, mod-one, mod-eq_of_lt, zero-mul, zero-add}
 use native.Mathlib.Omega.{arith}
-use lib.Bits.{bit_and, and_block, and_le_r, and_mask, and_mod, and_zero_r}
-use lib.Dec.{ltb, eqb}
-use lib.Pow.{pow_mono, pow_pos, split}
-use borrow.Author.Tests.{ltb-true}
-use Rattle.paper.proofs.Choice.{and_left, and_right}
-use Rattle.paper.specs.Words.{digit, gathered, only_bits}
+use lib.Bits.{bit_and, and_block, and_mask, and_zero_r}
+use lib.Dec.{eqb}
+use lib.Pow.{pow_pos}
+use Rattle.std.proofs.lemmas.Nat.{mod-pow-add}
+use borrow.Author.Tests.{eqb-true, eqb-false}
+use Rattle.paper.proofs.Choice.{if_cases}
+use Rattle.paper.specs.Words.{bit, digit, gathered, only_bits}
+use Rattle.words.specs.Masks.{bits_below}
 
-abbrev pub mask_of : List ℕ → ℕ
-mask_of [] = 0
-mask_of (i ∷ is) = 2 ^ i + mask_of is
+-- Digit k apart from what is below it.
+top_digit : (k n : ℕ) → n % 2 ^ suc k ≡ digit k n * 2 ^ k + n % 2 ^ k
+top_digit k n = ap (λ i. n % 2 ^ i) (omega arith) ∙ mod-pow-add n 1 k
 
-abbrev pub falls : (top : ℕ) → List ℕ → Bool
-falls top [] = true
-falls top (i ∷ is) = ltb i top && falls i is
-
--- The mask of bits below top is below 2^top.
-pub mask_bound : (top : ℕ) (is : List ℕ) → falls top is ≡ true → mask_of is < 2 ^ top
-mask_bound top [] e = pow_pos top
-mask_bound top (i ∷ is) e =
-    let below : suc i ≤ top = ltb-true i top (and_left (ltb i top) (falls i is) e) in
-    let rest = mask_bound i is (and_right (ltb i top) (falls i is) e) in
-    omega (arith, pow-suc 2 i, pow_mono below)
-
--- Bits of v above a mask do not matter.
-and_low : (i m v : ℕ) → m < 2 ^ i → bit_and (v % 2 ^ i) m ≡ bit_and v m
-and_low i m v h =
-    ap (bit_and (v % 2 ^ i)) (sym (mod-eq_of_lt h))
-    ∙ sym (and_mod v m i)
-    ∙ mod-eq_of_lt (lt_of_le_of_lt (and_le_r v m) h)
-
--- Bit i over a mask of lower bits picks bit i of v beside what the mask picks.
-pub and_bit : (i m v : ℕ) → m < 2 ^ i → bit_and v (2 ^ i + m) ≡ digit i v * 2 ^ i + bit_and v m
-and_bit i m v h =
-    ap₂ bit_and (sym (split v i)) (ap (λ x. x + m) (sym (one-mul (2 ^ i))))
-    ∙ and_block i (v / 2 ^ i) 1 (v % 2 ^ i) m (mod-lt v (pow_pos i)) h
-    ∙ ap₂ (λ x y. x * 2 ^ i + y) (and_mask (v / 2 ^ i) 1) (and_low i m v h)
-
--- A word and a mask are the word's bits that the mask's list numbers.
-pub mask_gathers : (top : ℕ) (is : List ℕ) → falls top is ≡ true → (v : ℕ) → bit_and v (mask_of is) ≡ gathered is v
-unfolding gathered
-mask_gathers top [] e v = and_zero_r v
-mask_gathers top (i ∷ is) e v =
-    let rest = and_right (ltb i top) (falls i is) e in
-    and_bit i (mask_of is) v (mask_bound i is rest) ∙ ap (λ x. digit i v * 2 ^ i + x) (mask_gathers i is rest v)
+-- Below bit k, a word and a mask are the bits of the word that the mask's bits number.
+mask_gathers : (k m v : ℕ) → bit_and (v % 2 ^ k) (m % 2 ^ k) ≡ gathered (bits_below k m) v
+unfolding gathered bits_below
+mask_gathers zero m v = rw (mod-one m) (and_zero_r (v % 1))
+mask_gathers (suc k) m v =
+    let rest = mask_gathers k m v in
+    let small = pow_pos k in
+    let low : digit k v % 2 ≡ digit k v = omega arith in
+    rw (top_digit k v, top_digit k m, and_block k (digit k v) (digit k m) (v % 2 ^ k) (m % 2 ^ k) (mod-lt v small) (mod-lt m small), rest)
+    (if_cases (λ is. bit_and (digit k v) (digit k m) * 2 ^ k + gathered (bits_below k m) v ≡ gathered is v) (bit k m)
+    (λ h. rw (eqb-true (digit k m) 1 h, and_mask (digit k v) 1, low) refl)
+    (λ h. let none : digit k m ≡ 0 = omega (arith, eqb-false (digit k m) 1 h) in rw (none, and_zero_r (digit k v), zero-mul (2 ^ k), zero-add) refl))
 
 -- A word keeps all its bits under a mask exactly where it has no other bit set.
-pub mask_only : (is : List ℕ) → falls 32 is ≡ true → (v : ℕ) → eqb v (bit_and v (mask_of is)) ≡ only_bits is v
-mask_only is e v = ap (eqb v) (mask_gathers 32 is e v)
+pub mask_only : (m v : ℕ) → m < 2 ^ 32 → v < 2 ^ 32 → eqb v (bit_and v m) ≡ only_bits (bits_below 32 m) v
+mask_only m v h k = ap (eqb v) (ap₂ bit_and (sym (mod-eq_of_lt k)) (sym (mod-eq_of_lt h)) ∙ mask_gathers 32 m v)

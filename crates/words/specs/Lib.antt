@@ -1,2 +1,3 @@
 -- Definitions that the contracts of words cite beside those of paper.
+pub mod Masks
 pub mod Status

@@ -6,14 +6,14 @@ ghost use Rattle.paper.specs.Words.{word_at};
 pub fn word_of(b0: u8, b1: u8, b2: u8, b3: u8) -> u32
     ensures { result ≡ b0 + b1 * 2 ^ 8 + b2 * 2 ^ 16 + b3 * 2 ^ 24 }
 {
-    (b3 as u32) << 24 | ((b2 as u32) << 16 | ((b1 as u32) << 8 | b0 as u32))
+    u32::from_le_bytes([b0, b1, b2, b3])
 }
 
 // Byte i of s; 0 past its end.
 pub fn byte_at(s: &[u8], i: usize) -> u8
     ensures { result ≡ get_or s.now i 0 }
 {
-    if i < s.len() { s[i] } else { 0 }
+    s.get(i).copied().unwrap_or(0)
 }
 
 // The word of the four bytes from byte i of s on; past the end of s bytes are 0.

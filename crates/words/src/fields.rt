@@ -1,7 +1,7 @@
 // The fields of command words, what they ask of a buffer, and words of which only some bits may be set (01, Words for transmission and Registers).
-// Tests are joined by & and |: each is a comparison of numbers, so stopping early saves nothing, and the one result is proved once.
+// Each bit and field has its function, by the paper's name, over bit_is_set and bits.
 ghost use Rattle.std.specs.Prelude.{if◌then◌else◌, ◌≡◌, ◌≤◌, ◌<◌};
-ghost use Rattle.paper.specs.Words.{bit, only_bits};
+ghost use Rattle.paper.specs.Words.{digit, bit, bits, only_bits};
 ghost use Rattle.paper.specs.Registers.{carried, setting_number};
 ghost use Rattle.paper.specs.Arrivals.{good_flags};
 ghost use Rattle.paper.specs.Sending.{good_outcome};
@@ -25,48 +25,62 @@ ghost use Rattle.paper.specs.Transmission.{
   repeats,
   sizes_agree,
 };
+ghost use Rattle.words.specs.Masks.{bits_below};
+
+// Bit i of v, as 0 or 1.
+fn digit(i: u32, v: u32) -> u32
+    requires { i < 32 }
+    ensures { result ≡ digit i v }
+{
+    v >> i & 1
+}
 
 // Bit i of v is set.
 pub fn bit_is_set(i: u32, v: u32) -> bool
     requires { i < 32 }
     ensures { result ≡ bit i v }
 {
-    v >> i & 1 == 1
+    digit(i, v) == 1
+}
+
+// The number in bits high to low of v.
+fn bits(high: u32, low: u32, v: u32) -> u32
+    requires { (low ≤ high) × (high < 32) }
+    ensures { result ≡ bits high low v }
+{
+    v >> low & u32::MAX >> (31 - (high - low))
 }
 
 // The end alignment of an A, as written: 0 to 3 (01: "25-24 end alignment").
 pub fn alignment_field(a: u32) -> u32
     ensures { result ≡ alignment_field a }
 {
-    a >> 24 & 3
+    bits(25, 24, a)
 }
 
 // The end alignment of an A in bytes (01: "0, 1, 2 mean 4, 16, 32 bytes"); for field 3, which good_a shuts out, 32.
 pub fn alignment(a: u32) -> u32
     ensures { result ≡ alignment a }
 {
-    let k = alignment_field(a);
-    if k == 0 {
-        return 4;
+    match alignment_field(a) {
+        0 => 4,
+        1 => 16,
+        _ => 32,
     }
-    if k == 1 {
-        return 16;
-    }
-    32
 }
 
 // The start offset o of an A (01: "20-16 start offset o").
 pub fn offset(a: u32) -> u32
     ensures { result ≡ offset a }
 {
-    a >> 16 & 0x1F
+    bits(20, 16, a)
 }
 
 // The size s of an A's buffer (01: "10-0 size s").
 pub fn buffer_size(a: u32) -> u32
     ensures { result ≡ buffer_size a }
 {
-    a & 0x7FF
+    bits(10, 0, a)
 }
 
 // An A's buffer is its packet's first (01: "13 first").
@@ -87,7 +101,7 @@ pub fn is_last(a: u32) -> bool
 pub fn tag(b: u32) -> u32
     ensures { result ≡ tag b }
 {
-    b >> 16
+    bits(31, 16, b)
 }
 
 // A first B asks for no FCS (01: "13 no CRC").
@@ -108,17 +122,18 @@ pub fn no_padding(b: u32) -> bool
 pub fn packet_length(b: u32) -> u32
     ensures { result ≡ packet_length b }
 {
-    b & 0x7FF
+    bits(10, 0, b)
 }
 
 // The payload words that the host writes for an A (01: "(o + s) rounded up to the alignment, over 4").
+#[tactic(auto, unfolding(paper::specs::Transmission::host_words))]
 pub fn host_words(a: u32) -> u32
     ensures { result ≡ host_words a }
 {
     let o = offset(a);
     let s = buffer_size(a);
     let k = alignment(a);
-    (o + s + (k - 1)) / k * k / 4
+    (o + s).next_multiple_of(k) / 4
 }
 
 // The payload words thrown away in front (01: "the first o/4 (rounded down) words").
@@ -134,7 +149,7 @@ pub fn stored_words(a: u32) -> u32
 {
     let o = offset(a);
     let s = buffer_size(a);
-    (o % 4 + s + 3) / 4
+    (o % 4 + s).div_ceil(4)
 }
 
 // Payload word i of an A's buffer, counting from 0, is stored (01: "the rest are thrown away and need no room").
@@ -143,14 +158,15 @@ pub fn is_stored(a: u32, i: u32) -> bool
 {
     let front = front_words(a);
     let stored = stored_words(a);
-    (front <= i) & (i < front + stored)
+    (front..front + stored).contains(&i)
 }
 
 // An A is not bad, with a packet opened or not (01: "3 bad", "0 bad", "First is bad with a packet open, and missing First is bad with none open").
+#[tactic(auto, unfolding(paper::specs::Transmission::good_a))]
 pub fn good_a(opened: bool, a: u32) -> bool
     ensures { result ≡ good_a opened a }
 {
-    (alignment_field(a) != 3) & (buffer_size(a) != 0) & (is_first(a) != opened)
+    alignment_field(a) != 3 && buffer_size(a) != 0 && is_first(a) != opened
 }
 
 // The longest p of a first B: the frame without its FCS, or with it where bit 13 says so (01: "1,514, or to 1,518 with bit 13 set").
@@ -161,21 +177,23 @@ fn longest_packet(b: u32) -> u32
 }
 
 // The p of a first B is in its range (01: "1 to 1,514, or to 1,518 with bit 13 set").
+#[tactic(auto, unfolding(paper::specs::Transmission::good_length))]
 pub fn good_length(b: u32) -> bool
     ensures { result ≡ good_length b }
 {
-    let p = packet_length(b);
-    (1 <= p) & (p <= longest_packet(b))
+    (1..=longest_packet(b)).contains(&packet_length(b))
 }
 
 // A later B repeats those of the first, b (01: "Later B words repeat tag and p.").
+#[tactic(auto, unfolding(paper::specs::Transmission::repeats))]
 pub fn repeats(b: u32, later: u32) -> bool
     ensures { result ≡ repeats b later }
 {
-    (tag(later) == tag(b)) & (packet_length(later) == packet_length(b))
+    tag(later) == tag(b) && packet_length(later) == packet_length(b)
 }
 
 // The buffer of a keeps to the p of b after sizes bytes, and reaches it at Last (01: "Sizes so far must not pass p, and equal p at Last").
+#[tactic(auto, unfolding(paper::specs::Transmission::sizes_agree))]
 pub fn sizes_agree(a: u32, b: u32, sizes: u32) -> bool
     requires { sizes ≤ 4096 }
     ensures { result ≡ sizes_agree a b sizes }
@@ -194,32 +212,42 @@ const OUTCOME: u32 = 0xF7D;
 // Bits 31, 20 to 15, 13, 11, 3 and 2.
 const CARRIED: u32 = 0x801F_A80C;
 
+// No bit of v is set but those of mask.
+#[tactic(auto, using(crate::proofs::Masks::mask_only))]
+fn has_only(mask: u32, v: u32) -> bool
+    ensures { result ≡ only_bits (bits_below 32 mask) v }
+{
+    v == v & mask
+}
+
 // The flags of an arriving frame are good (01: "only bits 6 (collision seen), 3 (MII error) and 2 (dribble) may be set").
+#[tactic(auto, unfolding(crate::specs::Masks::bits_below))]
 pub fn good_flags(flags: u32) -> bool
     ensures { result ≡ good_flags flags }
 {
-    flags == flags & FLAGS
+    has_only(FLAGS, flags)
 }
 
 // The outcome of a sending has no other bit set (01: "an outcome (bits 11, 10, 9, 8, 6-3, 2, 0 of the status)").
+#[tactic(auto, unfolding(crate::specs::Masks::bits_below))]
 pub fn good_outcome(o: u32) -> bool
     ensures { result ≡ good_outcome o }
 {
-    o == o & OUTCOME
+    has_only(OUTCOME, o)
 }
 
 // A value for MAC_CR has carried bits only (01: "Any other bit set is a bad value").
+#[tactic(auto, unfolding(crate::specs::Masks::bits_below))]
 pub fn only_carried(v: u32) -> bool
     ensures { result ≡ only_bits carried v }
 {
-    v == v & CARRIED
+    has_only(CARRIED, v)
 }
 
-// The number of a MAC_CR's setting, 0 to 31 (01: "by (MCPAS, PRMS, INVFILT, HO, HPFILT)"), MCPAS the highest of the five bits.
+// The number of a MAC_CR's setting, 0 to 31 (01: "by (MCPAS, PRMS, INVFILT, HO, HPFILT)"): MCPAS, PRMS and INVFILT are bits 19 to 17, HO is 15, HPFILT 13.
 pub fn setting_number(maccr: u32) -> u32
     ensures { result ≡ setting_number maccr }
 {
-    (maccr >> 19 & 1) << 4
-        | ((maccr >> 18 & 1) << 3
-            | ((maccr >> 17 & 1) << 2 | ((maccr >> 15 & 1) << 1 | maccr >> 13 & 1)))
+    let hash = digit(15, maccr) << 1 | digit(13, maccr);
+    bits(19, 17, maccr) << 2 | hash
 }

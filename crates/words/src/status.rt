@@ -1,6 +1,7 @@
 // Status words and level words put together (01, An arriving frame, "RX status"; Words for transmission, its last paragraph; Registers).
-ghost use Rattle.std.specs.Prelude.{◌≡◌, true, ◌-◌, ◌≤◌};
+ghost use Rattle.std.specs.Prelude.{◌≡◌, true, ◌-◌, ◌≤◌, ◌<◌};
 ghost use Rattle.paper.specs.declared.Fifo.TheVariants.{TxData};
+ghost use Rattle.paper.specs.Words.{mark};
 ghost use Rattle.paper.specs.Memory.{size};
 ghost use Rattle.paper.specs.Registers.{rx_fifo_inf, tx_fifo_inf};
 ghost use Rattle.paper.specs.Sending.{good_outcome, tx_status};
@@ -24,31 +25,52 @@ pub struct Marks {
     pub badfcs: bool,
 }
 
-// The error mark of an RX status (01: "15: 11, 7, 6 or 1 is set.").
-fn has_error(m: Marks) -> bool
-    ensures { result ≡ has_error m }
-{
-    m.runt | m.long | m.collision | m.badfcs
+impl Marks {
+    // The error mark of an RX status (01: "15: 11, 7, 6 or 1 is set.").
+    fn has_error(self) -> bool
+        ensures { result ≡ has_error self }
+    {
+        self.runt || self.long || self.collision || self.badfcs
+    }
 }
 
-// The RX status of a frame of len bytes (01: "The packet length in bits 29 to 16."): from the lowest mark up, each over those below it.
+// The word whose bit i is b and whose other bits are 0.
+fn mark(i: u32, b: bool) -> u32
+    requires { i < 32 }
+    ensures { result ≡ mark i b }
+{
+    u32::from(b) << i
+}
+
+// The RX status of a frame of len bytes (01: "The packet length in bits 29 to 16."), from the highest mark down.
 pub fn rx_status(len: u32, m: Marks) -> u32
     requires { len ≤ 2048 }
     ensures { result ≡ status_of len m }
 {
-    let w = (m.mii as u32) << 3 | ((m.dribble as u32) << 2 | (m.badfcs as u32) << 1);
-    let w = (m.long as u32) << 7 | ((m.collision as u32) << 6 | ((m.typed as u32) << 5 | w));
-    let w = (m.runt as u32) << 11 | ((m.group as u32) << 10 | w);
-    let w = (m.broadcast as u32) << 13 | ((m.wronglength as u32) << 12 | w);
-    let e = has_error(m);
-    (m.miss as u32) << 30 | (len << 16 | ((e as u32) << 15 | w))
+    mark(30, m.miss)
+        | len << 16
+        | mark(15, m.has_error())
+        | mark(13, m.broadcast)
+        | mark(12, m.wronglength)
+        | mark(11, m.runt)
+        | mark(10, m.group)
+        | mark(7, m.long)
+        | mark(6, m.collision)
+        | mark(5, m.typed)
+        | mark(3, m.mii)
+        | mark(2, m.dribble)
+        | mark(1, m.badfcs)
 }
 
 // The error mark of a TX status (01: "bit 15 set if 11, 10, 9, 8 or 2 is").
 fn outcome_error(o: u32) -> bool
     ensures { result ≡ outcome_error o }
 {
-    bit_is_set(11, o) | bit_is_set(10, o) | bit_is_set(9, o) | bit_is_set(8, o) | bit_is_set(2, o)
+    bit_is_set(11, o)
+        || bit_is_set(10, o)
+        || bit_is_set(9, o)
+        || bit_is_set(8, o)
+        || bit_is_set(2, o)
 }
 
 // The TX status of a packet whose first B is b (01: "tag in 31-16, bit 15 set if 11, 10, 9, 8 or 2 is, and the outcome").
@@ -56,9 +78,7 @@ pub fn tx_status(b: u32, outcome: u32) -> u32
     requires { good_outcome outcome ≡ true }
     ensures { result ≡ tx_status b outcome }
 {
-    let t = tag(b);
-    let e = outcome_error(outcome);
-    t << 16 | ((e as u32) << 15 | outcome)
+    tag(b) << 16 | mark(15, outcome_error(outcome)) | outcome
 }
 
 // RX_FIFO_INF (01: "RX statuses waiting in bits 23 to 16, RX data bytes waiting (words times 4) in 15 to 0").
@@ -74,8 +94,7 @@ fn free_words(n: u32, words: u32) -> u32
     requires { (2 ≤ n) × (n ≤ 14) }
     ensures { result ≡ size TxData n - words }
 {
-    let size = 256 * n - 128;
-    if words <= size { size - words } else { 0 }
+    (256 * n - 128).saturating_sub(words)
 }
 
 // TX_FIFO_INF with this many words waiting (01: "TX statuses waiting in 23 to 16, free TX data bytes in 15 to 0").

@@ -1,14 +1,16 @@
--- The tag over the error mark over the outcome.
-use Rattle.std.proofs.Common.{◌∙◌, add_assoc, arith}
+-- The outcome under the error mark under the tag.
+use Rattle.std.proofs.Common.{◌∙◌, ap, arith}
 use Rattle.paper.proofs.Counts.{outcome_bound}
 use Rattle.paper.specs.Sending.{tx_status}
-use Rattle.words.proofs.Over.{low, over, over_mark}
+use Rattle.paper.specs.Transmission.{tag}
+use Rattle.paper.specs.Words.{mark}
+use Rattle.words.proofs.Over.{lowest, mark_under, shifted, under}
 use Rattle.words.proofs.status.tx_status.Goals as goal
 
 pub returns : goal.returns
 unfolding tx_status
 returns c =
     let o = c.args.outcome in
-    let outcome = low 12 o (omega (arith, outcome_bound o c.requires)) in
-    let word = over 16 16 c.tag-t.result tt tt (omega arith) (over_mark 15 c.outcome_error-e.result tt tt outcome) in
-    simp (← c.tag-t.ensures, ← c.outcome_error-e.ensures) (word.sum ∙ simp add_assoc)
+    let b = c.args.b in
+    let w = mark_under 15 _ (c.mark.ensures ∙ ap (mark 15) c.outcome_error.ensures) tt (shifted 16 16 (tag b) tt (omega arith)) in
+    rw c.tag.ensures (under w (lowest o) (omega (arith, outcome_bound o c.requires)) (omega arith)).sum
