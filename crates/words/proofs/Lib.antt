@@ -1,3 +1,3 @@
--- Laws that the proofs of words cite: masks, and fields put over what lies below them.
+-- Laws that the proofs of words cite: masks, and fields of a word put together.
 pub mod Masks
-pub mod Over
+pub mod Sums

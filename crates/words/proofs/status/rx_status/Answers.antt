@@ -2,7 +2,7 @@
 use Rattle.std.proofs.Common.{◌∙◌, ap, arith}
 use Rattle.paper.specs.Words.{mark}
 use Rattle.words.specs.Status.{status_of}
-use Rattle.words.proofs.Over.{is_mark, mark_under, shifted, under}
+use Rattle.words.proofs.Sums.{is_mark, mark_under, shifted, under}
 use Rattle.words.proofs.status.rx_status.Goals as goal
 
 pub returns : goal.returns

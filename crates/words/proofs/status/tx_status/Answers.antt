@@ -4,7 +4,7 @@ use Rattle.paper.proofs.Counts.{outcome_bound}
 use Rattle.paper.specs.Sending.{tx_status}
 use Rattle.paper.specs.Transmission.{tag}
 use Rattle.paper.specs.Words.{mark}
-use Rattle.words.proofs.Over.{lowest, mark_under, shifted, under}
+use Rattle.words.proofs.Sums.{lowest, mark_under, shifted, under}
 use Rattle.words.proofs.status.tx_status.Goals as goal
 
 pub returns : goal.returns
