@@ -1,20 +1,22 @@
 -- The register after some bytes of a list.
 --   run-append     after two lists
---   run_byte       what is left from byte i on: that byte, then the rest
---   run_word       four bytes, added as one word
+--   run_more       one byte more
 --   run_turn       eight bytes, as the code adds them: two words, of which only the first waits for the register
---   run_eight      what is left from byte i on: eight bytes, then the rest
---   run_end        nothing is left
+--   run_turns      eight bytes a turn, then the rest
+--   word_of_last   the word of four bytes
 -- Assumes nothing.
 use mathlib.Core.Path.{◌≡◌, refl, sym, ap, ◌∙◌}
 use mathlib.Core.List.{List, [], ◌∷◌, ◌++◌}
-use Prim.Native.Nat.{ℕ, ◌+◌, ◌*◌, ◌%◌, ◌^◌, ◌≤◌, ◌<◌}
-use native.Mathlib.Nat.{mod-eq_of_lt}
-use native.Mathlib.Numerals.{add-one}
+use Prim.Native.Nat.{ℕ, zero, suc, ◌+◌, ◌*◌, ◌%◌, ◌^◌, ◌<◌}
+use native.Mathlib.Nat.{mod-eq_of_lt, add-zero}
 use native.Mathlib.Omega.{arith}
 use lib.Bits.{bit_xor, xor_comm}
-use lib.ListN.{length, get_or, take, drop, take-append-drop, drop_of_length-le}
-use lib.Seq.{drop-cons, drop-drop, take-add}
+use lib.ListN.{length, get_or, take, drop, take-append-drop}
+use Rattle.std.proofs.lemmas.List.{take_more, get_or-drop}
+use Rattle.std.specs.Int.{w32, from_le_bytes}
+use Rattle.std.specs.List.{fold}
+use Rattle.std.specs.Simd.{first_chunks}
+use lib.Seq.{drop-drop}
 use Rattle.paper.specs.Words.{word_at}
 use Rattle.checksum.specs.Register.{steps, run}
 use Rattle.checksum.proofs.Steps.{steps_xor, steps_add, join}
@@ -25,16 +27,11 @@ unfolding run
 run-append p r [] b = refl
 run-append p r (x ∷ a) b = run-append p (steps p 8 (bit_xor r (x % 256))) a b
 
--- A list from byte i on: that byte, and the list from the next on.
-from : (s : List ℕ) (i : ℕ) → i < length s → drop i s ≡ get_or s i 0 ∷ drop (i + 1) s
-from s i h = rw (add-one, drop-cons s i 0)
-
--- One byte.
-pub run_byte : (p r i : ℕ) (s : List ℕ) → i < length s → get_or s i 0 < 256
-    → run p (steps p 8 (bit_xor r (get_or s i 0))) (drop (i + 1) s) ≡ run p r (drop i s)
+-- One byte more.
+pub run_more : (p r i : ℕ) (s : List ℕ) → i < length s → get_or s i 0 < 256
+    → steps p 8 (bit_xor (run p r (take i s)) (get_or s i 0)) ≡ run p r (take (i + 1) s)
 unfolding run
-run_byte p r i s h small =
-    sym (ap (run p r) (from s i h) ∙ ap (λ (b : ℕ). run p (steps p 8 (bit_xor r b)) (drop (i + 1) s)) (mod-eq_of_lt small))
+run_more p r i s h small = rw (take_more s i 0 h, run-append, mod-eq_of_lt small)
 
 -- Four bytes are added at once.
 four : (p r a b c d : ℕ) → a < 256 → b < 256 → c < 256 → d < 256
@@ -46,43 +43,36 @@ four p r a b c d ha hb hc hd =
     ∙ ap (λ (x : ℕ). steps p 8 (bit_xor x d))
     (join p 16 8 r (a + b * 2 ^ 8) c (omega arith) ∙ ap (λ (x : ℕ). steps p 8 (bit_xor x c)) (join p 8 8 r a b ha))))
 
--- Four bytes of a list, as the word that they make.
-pub run_word : (p r i : ℕ) (s : List ℕ) → i + 4 ≤ length s → ((k : ℕ) → get_or s k 0 < 256)
-    → run p r (take 4 (drop i s)) ≡ steps p 32 (bit_xor r (word_at s i))
-run_word p r i s h byte =
-    ap (run p r) (ap (take 4) bytes)
-    ∙ four p r (get_or s i 0) (get_or s (i + 1) 0) (get_or s (i + 2) 0) (get_or s (i + 3) 0) (byte i) (byte (i + 1)) (byte (i + 2)) (byte (i + 3))
-  where
-    bytes : drop i s ≡ get_or s i 0 ∷ get_or s (i + 1) 0 ∷ get_or s (i + 2) 0 ∷ get_or s (i + 3) 0 ∷ drop (i + 4) s
-    bytes =
-        let two : i + 1 + 1 ≡ i + 2 = omega arith in
-        let three : i + 2 + 1 ≡ i + 3 = omega arith in
-        let last : i + 3 + 1 ≡ i + 4 = omega arith in
-        cc (from s i (omega arith), from s (i + 1) (omega arith), from s (i + 2) (omega arith), from s (i + 3) (omega arith))
-
 -- Eight bytes: two words, of which only the first waits for the register.
-pub run_turn : (p r i : ℕ) (s : List ℕ) → i + 8 ≤ length s → ((k : ℕ) → get_or s k 0 < 256)
-    → bit_xor (steps p 64 (bit_xor (word_at s i) r)) (steps p 32 (word_at s (i + 4))) ≡ run p r (take 8 (drop i s))
-run_turn p r i s h byte =
-    sym (ap (run p r) (take-add 4 4 (drop i s) ∙ ap (λ (l : List ℕ). take 4 (drop i s) ++ take 4 l) (drop-drop 4 i s))
-    ∙ run-append p r (take 4 (drop i s)) (take 4 (drop (i + 4) s))
-    ∙ run_word p (run p r (take 4 (drop i s))) (i + 4) s (omega arith) byte
-    ∙ steps_xor p 32 (run p r (take 4 (drop i s))) (word_at s (i + 4))
-    ∙ ap (λ (x : ℕ). bit_xor x (steps p 32 (word_at s (i + 4)))) first)
-  where
-    first : steps p 32 (run p r (take 4 (drop i s))) ≡ steps p 64 (bit_xor (word_at s i) r)
-    first =
-        ap (steps p 32) (run_word p r i s (omega arith) byte) ∙ sym (steps_add p 32 32 (bit_xor r (word_at s i)))
-        ∙ ap (steps p 64) (xor_comm r (word_at s i))
+pub run_turn : (p r : ℕ) (s : List ℕ) → length s ≡ 8 → ((k : ℕ) → get_or s k 0 < 256)
+    → bit_xor (steps p 64 (bit_xor (word_at s 0) r)) (steps p 32 (word_at s 4)) ≡ run p r s
+run_turn p r (a ∷ b ∷ c ∷ d ∷ e ∷ f ∷ g ∷ h ∷ []) l byte =
+    let first : ℕ = a + b * 2 ^ 8 + c * 2 ^ 16 + d * 2 ^ 24 in
+    let last : ℕ = e + f * 2 ^ 8 + g * 2 ^ 16 + h * 2 ^ 24 in
+    let half : ℕ = run p r (a ∷ b ∷ c ∷ d ∷ []) in
+    cc (
+      run-append p r (a ∷ b ∷ c ∷ d ∷ []) (e ∷ f ∷ g ∷ h ∷ []),
+      four p r a b c d (byte 0) (byte 1) (byte 2) (byte 3),
+      four p half e f g h (byte 4) (byte 5) (byte 6) (byte 7),
+      steps_xor p 32 half last,
+      steps_add p 32 32 (bit_xor r first),
+      xor_comm r first,
+    )
+run_turn p r s l byte = absurd (omega arith)
 
--- Eight bytes, then the rest.
-pub run_eight : (p r i : ℕ) (s : List ℕ) → run p (run p r (take 8 (drop i s))) (drop (i + 8) s) ≡ run p r (drop i s)
-run_eight p r i s =
-    ap (run p (run p r (take 8 (drop i s)))) (sym (drop-drop 8 i s))
-    ∙ sym (run-append p r (take 8 (drop i s)) (drop 8 (drop i s)))
-    ∙ ap (run p r) (take-append-drop 8 (drop i s))
+-- Eight bytes a turn, then the rest.
+pub run_turns : (p r k : ℕ) (s : List ℕ) → run p (fold (run p) r (first_chunks 8 k s)) (drop (k * 8) s) ≡ run p r s
+run_turns p r zero s = refl
+run_turns p r (suc k) s =
+    let turn : suc k * 8 ≡ 8 + k * 8 = omega arith in
+    cc (
+      turn,
+      drop-drop (k * 8) 8 s,
+      run_turns p (run p r (take 8 s)) k (drop 8 s),
+      run-append p r (take 8 s) (drop 8 s),
+      take-append-drop 8 s,
+    )
 
--- Nothing is left.
-pub run_end : (p r i : ℕ) (s : List ℕ) → length s ≤ i → run p r (drop i s) ≡ r
-unfolding run
-run_end p r i s h = ap (run p r) (drop_of_length-le s h)
+-- The word of the bytes from n on, where they are four.
+pub word_of_last : (s : List ℕ) (n : ℕ) → from_le_bytes w32 (drop n s) ≡ word_at s n
+word_of_last s n = simp (get_or-drop, add-zero)

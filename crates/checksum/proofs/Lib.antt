@@ -4,4 +4,4 @@ pub mod Steps
 pub mod Numbers
 pub mod Register
 pub mod Bytes
-pub mod Table
+pub mod Entries

@@ -11,17 +11,18 @@
 use Rattle.std.specs.Prelude.{if◌then◌else◌}
 use mathlib.Core.Path.{◌≡◌, refl, sym, ap, ap₂, ◌∙◌}
 use mathlib.Core.Bool.{Bool, true, false, not, xor}
-use mathlib.Core.List.{List, [], ◌∷◌, map, reverse}
+use mathlib.Core.List.{List, [], ◌∷◌, map, reverse, reverse_aux}
 use Prim.Native.Nat.{ℕ, zero, suc, ◌+◌, ◌*◌, ◌/◌, ◌%◌, ◌^◌, ◌≤◌, ◌<◌}
 use native.Mathlib.Nat.{mod-lt, mod-one, pow-suc, add_comm, le_of_suc-le-suc, not-suc-le-zero}
+use native.Mathlib.Numerals.{add-one}
 use native.Mathlib.Omega.{arith}
 use lib.Arith.{mod-mul, digits_div, digits_mod}
-use lib.Bits.{bit_xor, differ, xor_step, xor_zero_l, xor_zero_r}
+use lib.Bits.{bit_xor, xor_zero_l, xor_zero_r, xor_block}
+use Rattle.std.specs.Int.{w32, reverse_bits, reverse_bits_onto}
 use lib.Dec.{eqb}
-use lib.ListN.{length, take, replicate}
+use lib.ListN.{length, take}
 use lib.Pow.{pow_pos, shr-shr}
 use Rattle.paper.specs.Checksum.{plus, bits_of, number_of}
-use Rattle.checksum.proofs.Xor.{two_pos}
 
 -- A bit as a number, as `number_of` counts it.
 abbrev pub worth : Bool → ℕ
@@ -34,7 +35,7 @@ worth_lt false = omega arith
 
 -- The lowest bit of x is worth x % 2.
 worth_lowest : (x : ℕ) → worth (eqb (x % 2) 1) ≡ x % 2
-worth_lowest x = digit (x % 2) (mod-lt x two_pos)
+worth_lowest x = digit (x % 2) (mod-lt x (omega arith))
   where
     digit : (d : ℕ) → d < 2 → worth (eqb d 1) ≡ d
     digit zero h = refl
@@ -47,7 +48,7 @@ bit_worth true = refl
 bit_worth false = refl
 
 -- The sum of two bits.
-pub worth_xor : (a b : Bool) → worth (xor a b) ≡ differ (worth a) (worth b)
+pub worth_xor : (a b : Bool) → worth (xor a b) ≡ bit_xor (worth a) (worth b)
 unfolding xor
 worth_xor true true = refl
 worth_xor true false = refl
@@ -80,19 +81,14 @@ number_of-plus (a ∷ p) [] = sym (ap (bit_xor (number_of (a ∷ p))) number_of-
 number_of-plus (a ∷ p) (b ∷ q) =
     number_of-cons (xor a b) (plus p q)
     ∙ ap₂ (λ (x y : ℕ). x * 2 + y) (number_of-plus p q) (worth_xor a b)
-    ∙ sym (xor_step (number_of (a ∷ p)) (number_of (b ∷ q))
-    ∙ ap₂ (λ (x y : ℕ). x * 2 + y) (ap₂ bit_xor (number_of_half a p) (number_of_half b q)) (ap₂ differ (number_of_odd a p) (number_of_odd b q)))
+    ∙ sym (ap₂ bit_xor (number_of-cons a p) (number_of-cons b q) ∙ xor_block 1 (number_of p) (number_of q) (worth a) (worth b) (worth_lt a) (worth_lt b))
 
--- The complement adds a 1 to each bit.
-map_not : (bs : List Bool) → map not bs ≡ plus bs (replicate (length bs) true)
-unfolding plus xor
-map_not [] = refl
-map_not (true ∷ bs) = ap (λ (l : List Bool). false ∷ l) (map_not bs)
-map_not (false ∷ bs) = ap (λ (l : List Bool). true ∷ l) (map_not bs)
-
--- The number of a complement.
-pub number_of_not : (bs : List Bool) → number_of (map not bs) ≡ bit_xor (number_of bs) (number_of (replicate (length bs) true))
-number_of_not bs = ap number_of (map_not bs) ∙ number_of-plus bs (replicate (length bs) true)
+-- A number and that of its bits' complement make all ones.
+pub number_of_not : (bs : List Bool) → number_of bs + number_of (map not bs) + 1 ≡ 2 ^ length bs
+unfolding number_of
+number_of_not [] = refl
+number_of_not (true ∷ bs) = omega (arith, number_of_not bs, pow-suc 2 (length bs))
+number_of_not (false ∷ bs) = omega (arith, number_of_not bs, pow-suc 2 (length bs))
 
 -- The number of the k low bits of v.
 pub number_of-bits_of : (k v : ℕ) → number_of (bits_of k v) ≡ v % 2 ^ k
@@ -101,7 +97,7 @@ number_of-bits_of zero v = number_of-nil ∙ sym (mod-one v)
 number_of-bits_of (suc k) v =
     number_of-cons (eqb (v % 2) 1) (bits_of k (v / 2))
     ∙ ap₂ (λ (x y : ℕ). x * 2 + y) (number_of-bits_of k (v / 2)) (worth_lowest v)
-    ∙ sym (ap (λ (x : ℕ). v % x) (pow-suc 2 k) ∙ mod-mul v (pow_pos k) two_pos)
+    ∙ sym (ap (λ (x : ℕ). v % x) (pow-suc 2 k) ∙ mod-mul v (pow_pos k) (omega arith))
 
 -- The k low bits are k.
 pub bits_of-length : (k v : ℕ) → length (bits_of k v) ≡ k
@@ -118,14 +114,24 @@ bits_of-number_of (suc k) (b ∷ l) h =
     ap₂ (λ (x : Bool) (r : List Bool). x ∷ r) (ap (λ (n : ℕ). eqb n 1) (number_of_odd b l) ∙ bit_worth b)
     (ap (bits_of k) (number_of_half b l) ∙ bits_of-number_of k l (le_of_suc-le-suc h))
 
--- Six digits, each by its place, or one after the other.
-six_digits : (a b c d e f : ℕ) → a * 32 + b * 16 + c * 8 + d * 4 + e * 2 + f ≡ f + (e + (d + (c + (b + (a + 0 * 2) * 2) * 2) * 2) * 2) * 2
-six_digits a b c d e f = omega arith
+-- The k low bits of n, turned round onto others.
+reversed_onto : (k n : ℕ) (bs : List Bool) → reverse_bits_onto k n (number_of bs) ≡ number_of (reverse_aux (bits_of k n) bs)
+unfolding reverse_bits_onto bits_of
+reversed_onto zero n bs = refl
+reversed_onto (suc k) n bs = cc (reversed_onto k (n / 2) (eqb (n % 2) 1 ∷ bs), number_of-cons (eqb (n % 2) 1) bs, worth_lowest n)
 
--- The number of six bits turned round, written out.
-pub number_of_six : (x : ℕ)
-    → x % 2 * 32 + x / 2 % 2 * 16 + x / 4 % 2 * 8 + x / 8 % 2 * 4 + x / 16 % 2 * 2 + x / 32 % 2 ≡ number_of (reverse (bits_of 6 x))
-unfolding bits_of number_of
-number_of_six x =
-    simp (worth_lowest, shr-shr x 1 1, shr-shr x 2 1, shr-shr x 3 1, shr-shr x 4 1)
-    (six_digits (x % 2) (x / 2 % 2) (x / 4 % 2) (x / 8 % 2) (x / 16 % 2) (x / 32 % 2))
+-- Behind them, the first are shifted out again.
+reversed_shr : (k n a : ℕ) → reverse_bits_onto k n a / 2 ^ k ≡ a
+unfolding reverse_bits_onto
+reversed_shr zero n a = grind arith
+reversed_shr (suc k) n a = cc (
+  reversed_shr k (n / 2) (a * 2 + n % 2),
+  shr-shr (reverse_bits_onto k (n / 2) (a * 2 + n % 2)) k 1,
+  add-one k,
+  digits_div a {m = 2} {r = n % 2} (omega arith),
+)
+
+-- Of 32 bits turned round, the six high ones are the six low ones turned round.
+pub number_of_six : (x : ℕ) → reverse_bits w32 x / 2 ^ 26 ≡ number_of (reverse (bits_of 6 x))
+unfolding reverse_bits_onto number_of
+number_of_six x = reversed_shr 26 (x / 2 / 2 / 2 / 2 / 2 / 2) (reverse_bits_onto 6 x 0) ∙ reversed_onto 6 x []

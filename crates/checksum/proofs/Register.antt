@@ -1,6 +1,6 @@
 -- The register of specs/Checksum in `paper` and that of specs/Register are one, at any width and generator; then the FCS and the hash from its number.
 --   number_of-feed, number_of-feeds  one bit and many bits of the message
---   run-feeds, crc32-run             the bytes of a message; those of 802.3
+--   run-feeds, crc32_run             the bytes of a message; those of 802.3
 --   length-feeds, crc32-length       the register keeps its length; that of 802.3 has 32 bits
 --   fcs_register, hash_register      the FCS and the hash from the register's number
 -- Assumes nothing.
@@ -8,15 +8,14 @@ use Rattle.std.specs.Prelude.{if◌then◌else◌}
 use mathlib.Core.Path.{◌≡◌, refl, sym, ap, ap₂, ◌∙◌}
 use mathlib.Core.Bool.{Bool, true, false, xor}
 use mathlib.Core.List.{List, [], ◌∷◌, ◌++◌, reverse}
-use Prim.Native.Nat.{ℕ, suc, ◌+◌, ◌*◌, ◌/◌, ◌%◌, ◌≤◌}
+use Prim.Native.Nat.{ℕ, suc, ◌+◌, ◌-◌, ◌*◌, ◌/◌, ◌%◌, ◌≤◌}
 use native.Mathlib.Nat.{zero-mul, one-mul, le_of_suc-le-suc, not-suc-le-zero}
 use native.Mathlib.Numerals.{add-one}
 use native.Mathlib.Omega.{arith}
-use lib.Bits.{bit_xor, differ, xor_comm, xor_zero_r, xor_shifted}
+use lib.Bits.{bit_xor, xor_comm, xor_assoc, xor_zero_r, xor_shifted, xor_shr, xor_mod}
 use lib.ListN.{length, length-append, replicate}
 use Rattle.paper.specs.Checksum.{plus, highest, times_x, feed, feeds, bits_of, number_of, wire, generator, crc32, fcs, hash}
 use Rattle.checksum.specs.Register.{step, steps, run, reflected}
-use Rattle.checksum.proofs.Xor.{xor_half, xor_odd, xor_assoc}
 use Rattle.checksum.proofs.Steps.{step_xor, step_even}
 use Rattle.checksum.proofs.Numbers.{worth, worth_lt, worth_xor, number_of-nil, number_of-cons, number_of_half, number_of_odd, number_of-plus}
 use Rattle.checksum.proofs.Numbers.{number_of_not, number_of-bits_of, bits_of-length, bits_of-number_of}
@@ -44,12 +43,11 @@ number_of_choice : (b : Bool) (g r : List Bool) → number_of (if b then plus r 
 number_of_choice true g r = number_of-plus r g ∙ ap (bit_xor (number_of r)) (sym (one-mul (number_of g)))
 number_of_choice false g r = sym (ap (bit_xor (number_of r)) (zero-mul (number_of g)) ∙ xor_zero_r (number_of r))
 
--- Above a bit there is nothing.
+-- A bit alone: above it there is nothing.
 worth_half : (b : Bool) → worth b / 2 ≡ 0
 worth_half true = refl
 worth_half false = refl
 
--- A bit is its own lowest bit.
 worth_odd : (b : Bool) → worth b % 2 ≡ worth b
 worth_odd true = refl
 worth_odd false = refl
@@ -57,12 +55,17 @@ worth_odd false = refl
 -- One bit of the message: it is added to the lowest bit, and the register goes a step.
 pub number_of-feed : (g r : List Bool) (b : Bool) → number_of (feed g r b) ≡ step (number_of g) (bit_xor (number_of r) (worth b))
 unfolding feed step
-number_of-feed g r b =
-    number_of_choice (xor (highest r) b) g (times_x r)
-    ∙ ap₂ bit_xor
-    (number_of-times_x r ∙ sym (xor_half (number_of r) (worth b) ∙ ap (bit_xor (number_of r / 2)) (worth_half b) ∙ xor_zero_r (number_of r / 2)))
-    (ap (λ (x : ℕ). x * number_of g)
-    (worth_xor (highest r) b ∙ ap₂ differ (worth_highest r) (sym (worth_odd b)) ∙ sym (xor_odd (number_of r) (worth b))))
+number_of-feed g r b = cc (
+  number_of_choice (xor (highest r) b) g (times_x r),
+  number_of-times_x r,
+  worth_xor (highest r) b,
+  worth_highest r,
+  worth_half b,
+  worth_odd b,
+  xor_shr (number_of r) (worth b) 1,
+  xor_mod (number_of r) (worth b) 1,
+  xor_zero_r (number_of r / 2),
+)
 
 -- Many bits of the message: they are added to the register as one number, and stepped out.
 pub number_of-feeds : (g r bs : List Bool) → number_of (feeds g r bs) ≡ steps (number_of g) (length bs) (bit_xor (number_of r) (number_of bs))
@@ -109,9 +112,9 @@ unfolding number_of
 number_of_ones = refl
 
 -- The register of 802.3 after the bytes s.
-pub crc32-run : (s : List ℕ) → run reflected 0xFFFF_FFFF s ≡ number_of (crc32 s)
+pub crc32_run : (s : List ℕ) → run reflected 0xFFFF_FFFF s ≡ number_of (crc32 s)
 unfolding crc32
-crc32-run s =
+crc32_run s =
     sym (run-feeds generator (replicate 32 true) s ∙ ap₂ (λ (p r : ℕ). run p r s) number_of-generator number_of_ones)
 
 -- A sum is as long as its longer term.
@@ -154,11 +157,9 @@ unfolding crc32
 crc32-length s = length-feeds generator (replicate 32 true) (wire s) (rw generator-length (omega arith))
 
 -- The FCS is the complement of the register's number.
-pub fcs_register : (s : List ℕ) → bit_xor (number_of (crc32 s)) 0xFFFF_FFFF ≡ fcs s
+pub fcs_register : (s : List ℕ) → 0xFFFF_FFFF - number_of (crc32 s) ≡ fcs s
 unfolding fcs
-fcs_register s =
-    sym (number_of_not (crc32 s)
-    ∙ ap (bit_xor (number_of (crc32 s))) (ap (λ (n : ℕ). number_of (replicate n true)) (crc32-length s) ∙ number_of_ones))
+fcs_register s = let all = number_of_not (crc32 s) in let at32 = rw crc32-length at all in omega arith
 
 -- The hash is the number of the six low bits of the register's number, turned round.
 pub hash_register : (s : List ℕ) → number_of (reverse (bits_of 6 (number_of (crc32 s)))) ≡ hash s

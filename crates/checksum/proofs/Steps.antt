@@ -7,26 +7,29 @@
 -- Assumes nothing.
 use mathlib.Core.Path.{◌≡◌, refl, sym, ap, ap₂, ◌∙◌}
 use Prim.Native.Nat.{ℕ, zero, suc, ◌+◌, ◌*◌, ◌/◌, ◌%◌, ◌^◌, ◌<◌}
-use native.Mathlib.Nat.{mod-lt, zero-mul, mul-mod_left, mul-div_cancel, pow-suc, mul_assoc, mul-one, zero-add, suc-add}
+use native.Mathlib.Nat.{zero-mul, mul-mod_left, mul-div_cancel, pow-suc, mul_assoc, mul-one, zero-add, suc-add}
 use native.Mathlib.Omega.{arith}
-use lib.Bits.{bit_xor, differ, xor_comm, xor_zero_l, xor_zero_r, xor_self}
+use lib.Bits.{bit_xor, xor_comm, xor_assoc, xor_zero_l, xor_zero_r, xor_self, xor_shr, xor_mod}
 use Rattle.checksum.specs.Register.{step, steps}
-use Rattle.checksum.proofs.Xor.{two_pos, xor_half, xor_odd, xor_assoc, xor_swap, xor_split, xor_join}
+use Rattle.checksum.proofs.Xor.{xor_swap, xor_split, xor_join}
 
 -- A sum of digits times p is the sum of p so many times.
-differ_mul : (p x y : ℕ) → x < 2 → y < 2 → differ x y * p ≡ bit_xor (x * p) (y * p)
-differ_mul p zero y hx hy = sym (ap (λ (z : ℕ). bit_xor z (y * p)) (zero-mul p) ∙ xor_zero_l (y * p))
-differ_mul p (suc zero) zero hx hy = sym (ap (bit_xor (1 * p)) (zero-mul p) ∙ xor_zero_r (1 * p))
-differ_mul p (suc zero) (suc zero) hx hy = zero-mul p ∙ sym (xor_self (1 * p))
-differ_mul p (suc zero) (suc (suc y)) hx hy = omega arith
-differ_mul p (suc (suc x)) y hx hy = omega arith
+digit_mul : (p x y : ℕ) → x < 2 → y < 2 → bit_xor x y * p ≡ bit_xor (x * p) (y * p)
+digit_mul p zero y hx hy = sym (ap (λ (z : ℕ). bit_xor z (y * p)) (zero-mul p) ∙ xor_zero_l (y * p))
+digit_mul p (suc zero) zero hx hy = sym (ap (bit_xor (1 * p)) (zero-mul p) ∙ xor_zero_r (1 * p))
+digit_mul p (suc zero) (suc zero) hx hy = zero-mul p ∙ sym (xor_self (1 * p))
+digit_mul p (suc zero) (suc (suc y)) hx hy = omega arith
+digit_mul p (suc (suc x)) y hx hy = omega arith
 
 -- A step is linear.
 pub step_xor : (p a b : ℕ) → step p (bit_xor a b) ≡ bit_xor (step p a) (step p b)
 unfolding step
-step_xor p a b =
-    ap₂ bit_xor (xor_half a b) (ap (λ (x : ℕ). x * p) (xor_odd a b) ∙ differ_mul p (a % 2) (b % 2) (mod-lt a two_pos) (mod-lt b two_pos))
-    ∙ xor_swap (a / 2) (b / 2) (a % 2 * p) (b % 2 * p)
+step_xor p a b = cc (
+  xor_shr a b 1,
+  xor_mod a b 1,
+  digit_mul p (a % 2) (b % 2) (omega arith) (omega arith),
+  xor_swap (a / 2) (b / 2) (a % 2 * p) (b % 2 * p),
+)
 
 -- Any number of steps is linear.
 pub steps_xor : (p n a b : ℕ) → steps p n (bit_xor a b) ≡ bit_xor (steps p n a) (steps p n b)
@@ -37,7 +40,7 @@ steps_xor p (suc n) a b = ap (steps p n) (step_xor p a b) ∙ steps_xor p n (ste
 -- The step of an even number is its half.
 pub step_even : (p m : ℕ) → step p (m * 2) ≡ m
 unfolding step
-step_even p m = ap₂ bit_xor (mul-div_cancel m two_pos) (ap (λ (x : ℕ). x * p) (mul-mod_left m 2) ∙ zero-mul p) ∙ xor_zero_r m
+step_even p m = ap₂ bit_xor (mul-div_cancel m (omega arith)) (ap (λ (x : ℕ). x * p) (mul-mod_left m 2) ∙ zero-mul p) ∙ xor_zero_r m
 
 -- n zeros at the low end fall out in n steps.
 pub steps_shift : (p n k m : ℕ) → steps p (n + k) (m * 2 ^ n) ≡ steps p k m

@@ -4,9 +4,8 @@
 --   steps p n r    n bits on
 --   run p r s      after the bytes s: each is added to the low end, then eight bits on
 --   reflected      the generator of 802.3, as such a number
---   Widened x r    r is the byte x as a word
 -- Assumes nothing.
-use Rattle.std.specs.Prelude.{◌≡◌, List, [], ◌∷◌, ℕ, zero, suc, ◌*◌, ◌/◌, ◌%◌, ◌<◌}
+use Rattle.std.specs.Prelude.{List, [], ◌∷◌, ℕ, zero, suc, ◌*◌, ◌/◌, ◌%◌}
 use Rattle.std.specs.Int.Bits.{bit_xor}
 
 unfoldable pub step : (p r : ℕ) → ℕ
@@ -23,7 +22,3 @@ run p r (b ∷ s) = run p (steps p 8 (bit_xor r (b % 256))) s
 -- 04C1_1DB7h with its 32 bits turned round
 abbrev pub reflected : ℕ
 reflected = 0xEDB8_8320
-
-pub record Widened (x r : ℕ) : Type 0 where
-  pub same : r ≡ x
-  pub small : r < 256

@@ -1,134 +1,130 @@
 // The checksum of IEEE 802.3 over bytes: the FCS, "the FCS fits", and the hash (01, An arriving frame). Each is proved equal to its
-// bitwise definition in specs/Checksum of `paper`. Eight bytes a turn, by a table of 1 KB; since a constant array lies on the stack of
-// the function that names it, only `register_of` names it, and lends it to the functions inside.
+// bitwise definition in specs/Checksum of `paper`. Eight bytes a turn, by a table of 1 KB; it is a static, which lies on no function's
+// stack, and only `register_of` names it.
 #![tactic(auto)]
 
 mod rows;
 
-ghost use Rattle.std.specs.Prelude.{◌≡◌, reverse, ◌+◌, ◌*◌, ◌≤◌, ◌<◌, ◌%◌, length, take, drop};
-ghost use Rattle.paper.specs.Words.{word_at};
+ghost use Rattle.std.specs.Prelude.{◌≡◌, reverse, ◌+◌, ◌*◌, ◌<◌, ◌%◌};
 ghost use Rattle.paper.specs.Checksum.{bits_of, number_of, crc32, fcs, fcs_fits, hash};
-ghost use Rattle.checksum.specs.Register.{steps, run, reflected, Widened};
+ghost use Rattle.checksum.specs.Register.{steps, run, reflected};
 ghost use Rattle.checksum.specs.Table.{nibbles};
 
-// A byte as a word.
-fn wide(x: u8) -> u32
-    ensures { Widened x result }
-{
-    x as u32
+// The table `nibbles` of specs/Table, lent, and the steps of the register that are read from it.
+#[derive(Clone, Copy)]
+struct Table<'a> {
+    entries: &'a [u32; 256],
+    ghost is: { entries.now ≡ nibbles reflected },
 }
 
-// The four low bits of x, stepped out with e times four bits behind them: an entry of row e.
-fn look(t: &[u32; 256], e: usize, x: u32) -> u32
-    requires { (t.now ≡ nibbles reflected) × (e < 16) }
-    ensures { result ≡ steps reflected ((e + 1) * 4) (x % 16) }
-{
-    t[e * 16 + (x % 16) as usize]
-}
-
-// The eight low bits of x, stepped out with e times four bits behind them.
-fn pair(t: &[u32; 256], e: usize, x: u32) -> u32
-    requires { (t.now ≡ nibbles reflected) × (e < 15) }
-    ensures { result ≡ steps reflected ((e + 2) * 4) (x % 256) }
-{
-    look(t, e + 1, x) ^ look(t, e, x >> 4)
-}
-
-// The register x, eight bits on.
-fn byte(t: &[u32; 256], x: u32) -> u32
-    requires { t.now ≡ nibbles reflected }
-    ensures { result ≡ steps reflected 8 x }
-{
-    pair(t, 0, x) ^ (x >> 8)
-}
-
-// The register x, 32 bits and e times four bits on.
-fn word(t: &[u32; 256], e: usize, x: u32) -> u32
-    requires { (t.now ≡ nibbles reflected) × (e < 9) }
-    ensures { result ≡ steps reflected ((e + 8) * 4) x }
-{
-    pair(t, e + 6, x) ^ pair(t, e + 4, x >> 8) ^ pair(t, e + 2, x >> 16) ^ pair(t, e, x >> 24)
-}
-
-// The word of the four bytes from byte i of s on.
-fn load(s: &[u8], i: usize) -> u32
-    requires { i + 4 ≤ length s.now }
-    ensures { result ≡ word_at s.now i }
-{
-    wide(s[i]) + wide(s[i + 1]) * 0x100 + wide(s[i + 2]) * 0x1_0000 + wide(s[i + 3]) * 0x100_0000
-}
-
-// A turn: the register r after the eight bytes from byte i of s on. Only the first four wait for r.
-fn turn(t: &[u32; 256], r: u32, s: &[u8], i: usize) -> u32
-    requires { (t.now ≡ nibbles reflected) × (i + 8 ≤ length s.now) }
-    ensures { result ≡ run reflected r (take 8 (drop i s.now)) }
-{
-    word(t, 8, load(s, i) ^ r) ^ word(t, 0, load(s, i + 4))
-}
-
-// The register after the bytes of s from byte `from` on, a byte at a time.
-fn rest(t: &[u32; 256], start: u32, s: &[u8], from: usize) -> u32
-    requires { (t.now ≡ nibbles reflected) × (from ≤ length s.now) }
-    ensures { result ≡ run reflected start (drop from s.now) }
-{
-    let mut r = start;
-    let mut i = from;
-    while i < s.len() {
-        r = byte(t, r ^ wide(s[i]));
-        i += 1;
+impl Table<'_> {
+    // The four low bits of x, stepped out with e times four bits behind them: an entry of row e.
+    #[tactic(auto, using(crate::proofs::Entries::nibbles_at))]
+    fn look(self, e: usize, x: u32) -> u32
+        requires { e < 16 }
+        ensures { result ≡ steps reflected ((e + 1) * 4) (x % 16) }
+    {
+        self.entries[e * 16 + (x % 16) as usize]
     }
-    r
-}
 
-// The register after the bytes of s, from any start: eight bytes a turn, then the rest.
-fn update(t: &[u32; 256], start: u32, s: &[u8]) -> u32
-    requires { t.now ≡ nibbles reflected }
-    ensures { result ≡ run reflected start s.now }
-{
-    let mut r = start;
-    let mut i = 0;
-    while 8 <= s.len() - i {
-        r = turn(t, r, s, i);
-        i += 8;
+    // The eight low bits of x, stepped out with e times four bits behind them.
+    #[tactic(auto, using(crate::proofs::Entries::two_nibbles))]
+    fn pair(self, e: usize, x: u32) -> u32
+        requires { e < 15 }
+        ensures { result ≡ steps reflected ((e + 2) * 4) (x % 256) }
+    {
+        self.look(e + 1, x) ^ self.look(e, x >> 4)
     }
-    rest(t, r, s, i)
+
+    // The register x, eight bits on.
+    #[tactic(auto, using(crate::proofs::Entries::one_byte))]
+    fn byte(self, x: u32) -> u32
+        ensures { result ≡ steps reflected 8 x }
+    {
+        self.pair(0, x) ^ (x >> 8)
+    }
+
+    // The register x, 32 bits and e times four bits on.
+    #[tactic(auto, using(crate::proofs::Entries::four_bytes))]
+    fn word(self, e: usize, x: u32) -> u32
+        requires { e < 9 }
+        ensures { result ≡ steps reflected ((e + 8) * 4) x }
+    {
+        self.pair(e + 6, x)
+            ^ self.pair(e + 4, x >> 8)
+            ^ self.pair(e + 2, x >> 16)
+            ^ self.pair(e, x >> 24)
+    }
+
+    // A turn: the register r after eight bytes. Only the first four wait for r.
+    #[tactic(auto, using(crate::proofs::Bytes::run_turn))]
+    fn turn(self, r: u32, eight: &[u8; 8]) -> u32
+        ensures { result ≡ run reflected r eight.now }
+    {
+        let [a, b, c, d, e, f, g, h] = *eight;
+        self.word(8, u32::from_le_bytes([a, b, c, d]) ^ r)
+            ^ self.word(0, u32::from_le_bytes([e, f, g, h]))
+    }
+
+    // The register after the bytes of s, from any start: eight bytes a turn, then the rest.
+    #[tactic(auto, using(crate::proofs::Bytes::run_turns, crate::proofs::Bytes::run_more, std::proofs::lemmas::List::Sums::fold_more), unfolding(crate::specs::Register::run))]
+    fn update(self, start: u32, s: &[u8]) -> u32
+        ensures { result ≡ run reflected start s.now }
+    {
+        let (turns, rest) = s.as_chunks::<8>();
+        let mut r = start;
+        for eight in turns {
+            r = self.turn(r, eight);
+        }
+        for b in rest {
+            r = self.byte(r ^ u32::from(*b));
+        }
+        r
+    }
 }
 
 // The register of 802.3 after the bytes of s, x^31 in the lowest bit.
+#[tactic(auto, using(crate::proofs::Register::crc32_run), unfolding(crate::specs::Table::nibbles, crate::specs::Table::entry, crate::specs::Register::steps, crate::specs::Register::step, paper::specs::Words::series))]
 fn register_of(s: &[u8]) -> u32
     ensures { result ≡ number_of (crc32 s.now) }
 {
-    update(&rows::NIBBLES, 0xFFFF_FFFF, s)
+    let table = Table {
+        entries: &rows::NIBBLES,
+    };
+    table.update(u32::MAX, s)
 }
 
 // The FCS of s, its first byte on the wire lowest.
+#[tactic(auto, using(crate::proofs::Register::fcs_register))]
 pub fn fcs_of(s: &[u8]) -> u32
     ensures { result ≡ fcs s.now }
 {
-    register_of(s) ^ 0xFFFF_FFFF
+    !register_of(s)
 }
 
 // The last four bytes of s are the FCS of those before; fewer than four bytes never fit.
 // 01: "the FCS does not fit the bytes before it (ours)".
+#[tactic(auto, using(crate::proofs::Bytes::word_of_last), unfolding(paper::specs::Checksum::fcs_fits))]
 pub fn fcs_fits(s: &[u8]) -> bool
     ensures { result ≡ fcs_fits s.now }
 {
-    if s.len() < 4 {
-        return false;
+    match s.split_last_chunk() {
+        Some((front, last)) => u32::from_le_bytes(*last) == fcs_of(front),
+        None => false,
     }
-    let n = s.len() - 4;
-    load(s, n) == fcs_of(&s[..n])
 }
 
 // The six low bits of x, turned round.
+#[tactic(auto, using(crate::proofs::Numbers::number_of_six))]
 fn turned(x: u32) -> u32
     ensures { result ≡ number_of (reverse (bits_of 6 x)) }
 {
-    x % 2 * 32 + x / 2 % 2 * 16 + x / 4 % 2 * 8 + x / 8 % 2 * 4 + x / 16 % 2 * 2 + x / 32 % 2
+    x.reverse_bits() >> 26
 }
 
 // The hash of s, 0 to 63: the register's top six bits, x^31 the highest.
 // 01: "of the register's top six bits, x^31 down, the highest chooses HASHH (1) or HASHL (0)".
+#[tactic(auto, using(crate::proofs::Register::hash_register))]
 pub fn hash_of(s: &[u8]) -> u32
     ensures { result ≡ hash s.now }
 {

@@ -1,5 +1,5 @@
 // The table `nibbles` of specs/Table: row e, sixteen entries, has the four bits of n stepped out with e times four bits behind them.
-pub const NIBBLES: [u32; 256] = [
+pub static NIBBLES: [u32; 256] = [
     0x0000_0000,
     0x1DB7_1064,
     0x3B6E_20C8,

@@ -7,13 +7,12 @@ use Prim.Native.Nat.{ℕ, ◌+◌, ◌*◌, ◌/◌, ◌%◌, ◌^◌, ◌<◌}
 use native.Mathlib.Nat.{zero-add}
 use native.Mathlib.Omega.{arith}
 use lib.Arith.{digits_div, digits_mod}
-use lib.Bits.{bit_xor}
+use lib.Bits.{bit_xor, xor_assoc}
 use lib.ListN.{get_or}
 use lib.Pow.{field}
 use Rattle.paper.proofs.Words.{series-get_or}
 use Rattle.checksum.specs.Register.{steps}
 use Rattle.checksum.specs.Table.{entry, nibbles}
-use Rattle.checksum.proofs.Xor.{xor_assoc}
 use Rattle.checksum.proofs.Steps.{peel}
 
 -- Entry n of row e.
