@@ -5,7 +5,7 @@
 --   run_turns      eight bytes a turn, then the rest
 --   word_of_last   the word of four bytes
 -- Assumes nothing.
-use mathlib.Core.Path.{◌≡◌, refl, sym, ap, ◌∙◌}
+use mathlib.Core.Path.{◌≡◌, refl}
 use mathlib.Core.List.{List, [], ◌∷◌, ◌++◌}
 use Prim.Native.Nat.{ℕ, zero, suc, ◌+◌, ◌*◌, ◌%◌, ◌^◌, ◌<◌}
 use native.Mathlib.Nat.{mod-eq_of_lt, add-zero}
@@ -38,10 +38,15 @@ four : (p r a b c d : ℕ) → a < 256 → b < 256 → c < 256 → d < 256
     → run p r (a ∷ b ∷ c ∷ d ∷ []) ≡ steps p 32 (bit_xor r (a + b * 2 ^ 8 + c * 2 ^ 16 + d * 2 ^ 24))
 unfolding run
 four p r a b c d ha hb hc hd =
-    rw (mod-eq_of_lt ha, mod-eq_of_lt hb, mod-eq_of_lt hc, mod-eq_of_lt hd)
-    (sym (join p 24 8 r (a + b * 2 ^ 8 + c * 2 ^ 16) d (omega arith)
-    ∙ ap (λ (x : ℕ). steps p 8 (bit_xor x d))
-    (join p 16 8 r (a + b * 2 ^ 8) c (omega arith) ∙ ap (λ (x : ℕ). steps p 8 (bit_xor x c)) (join p 8 8 r a b ha))))
+    cc (
+      mod-eq_of_lt ha,
+      mod-eq_of_lt hb,
+      mod-eq_of_lt hc,
+      mod-eq_of_lt hd,
+      join p 8 8 r a b ha,
+      join p 16 8 r (a + b * 2 ^ 8) c (omega arith),
+      join p 24 8 r (a + b * 2 ^ 8 + c * 2 ^ 16) d (omega arith),
+    )
 
 -- Eight bytes: two words, of which only the first waits for the register.
 pub run_turn : (p r : ℕ) (s : List ℕ) → length s ≡ 8 → ((k : ℕ) → get_or s k 0 < 256)

@@ -2,7 +2,7 @@
 --   nibbles_at    an entry
 --   two_nibbles, one_byte, four_bytes    eight bits, a register eight bits on, a register of 32 bits that goes all out
 -- Assumes nothing.
-use mathlib.Core.Path.{◌≡◌, sym, ap, ap₂, ◌∙◌}
+use mathlib.Core.Path.{◌≡◌, sym}
 use Prim.Native.Nat.{ℕ, ◌+◌, ◌*◌, ◌/◌, ◌%◌, ◌^◌, ◌<◌}
 use native.Mathlib.Nat.{zero-add}
 use native.Mathlib.Omega.{arith}
@@ -18,10 +18,12 @@ use Rattle.checksum.proofs.Steps.{peel}
 -- Entry n of row e.
 pub nibbles_at : (p e n : ℕ) → e < 16 → n < 16 → get_or (nibbles p) (e * 16 + n) 0 ≡ steps p ((e + 1) * 4) n
 unfolding nibbles entry
-nibbles_at p e n he hn =
-    series-get_or (entry p) 0 256 (e * 16 + n) 0 (omega arith)
-    ∙ ap (entry p) (zero-add (e * 16 + n))
-    ∙ ap₂ (λ (d m : ℕ). steps p ((d + 1) * 4) m) (digits_div e hn) (digits_mod e hn)
+nibbles_at p e n he hn = cc (
+  series-get_or (entry p) 0 256 (e * 16 + n) 0 (omega arith),
+  zero-add (e * 16 + n),
+  digits_div e hn,
+  digits_mod e hn,
+)
 
 -- Eight bits are two entries.
 pub two_nibbles : (p e x : ℕ) → bit_xor (steps p ((e + 1 + 1) * 4) (x % 16)) (steps p ((e + 1) * 4) (x / 16 % 16)) ≡ steps p ((e + 2) * 4) (x % 256)

@@ -9,19 +9,19 @@
 --   number_of_six                  the number of six bits turned round
 -- Assumes nothing.
 use Rattle.std.specs.Prelude.{if◌then◌else◌}
-use mathlib.Core.Path.{◌≡◌, refl, sym, ap, ap₂, ◌∙◌}
+use mathlib.Core.Path.{◌≡◌, refl, sym, ap, ◌∙◌}
 use mathlib.Core.Bool.{Bool, true, false, not, xor}
 use mathlib.Core.List.{List, [], ◌∷◌, map, reverse, reverse_aux}
 use Prim.Native.Nat.{ℕ, zero, suc, ◌+◌, ◌*◌, ◌/◌, ◌%◌, ◌^◌, ◌≤◌, ◌<◌}
-use native.Mathlib.Nat.{mod-lt, mod-one, pow-suc, add_comm, le_of_suc-le-suc, not-suc-le-zero}
+use native.Mathlib.Nat.{mod-one, pow-suc, add_comm, le_of_suc-le-suc, not-suc-le-zero}
 use native.Mathlib.Numerals.{add-one}
 use native.Mathlib.Omega.{arith}
-use lib.Arith.{mod-mul, digits_div, digits_mod}
+use lib.Arith.{digits_div}
 use lib.Bits.{bit_xor, xor_zero_l, xor_zero_r, xor_block}
 use Rattle.std.specs.Int.{w32, reverse_bits, reverse_bits_onto}
 use lib.Dec.{eqb}
 use lib.ListN.{length, take}
-use lib.Pow.{pow_pos, shr-shr}
+use lib.Pow.{mod-pow-add, shr-shr}
 use Rattle.paper.specs.Checksum.{plus, bits_of, number_of}
 
 -- A bit as a number, as `number_of` counts it.
@@ -35,7 +35,7 @@ worth_lt false = omega arith
 
 -- The lowest bit of x is worth x % 2.
 worth_lowest : (x : ℕ) → worth (eqb (x % 2) 1) ≡ x % 2
-worth_lowest x = digit (x % 2) (mod-lt x (omega arith))
+worth_lowest x = digit (x % 2) (omega arith)
   where
     digit : (d : ℕ) → d < 2 → worth (eqb d 1) ≡ d
     digit zero h = refl
@@ -67,21 +67,25 @@ number_of-nil = refl
 
 -- The half of a list's number is the number of the rest.
 pub number_of_half : (b : Bool) (bs : List Bool) → number_of (b ∷ bs) / 2 ≡ number_of bs
-number_of_half b bs = ap (λ (x : ℕ). x / 2) (number_of-cons b bs) ∙ digits_div (number_of bs) (worth_lt b)
+number_of_half b bs = omega (arith, number_of-cons b bs, worth_lt b)
 
 -- Its lowest bit is the first.
 pub number_of_odd : (b : Bool) (bs : List Bool) → number_of (b ∷ bs) % 2 ≡ worth b
-number_of_odd b bs = ap (λ (x : ℕ). x % 2) (number_of-cons b bs) ∙ digits_mod (number_of bs) (worth_lt b)
+number_of_odd b bs = omega (arith, number_of-cons b bs, worth_lt b)
 
 -- The number of a sum of polynomials is the sum of their numbers.
 pub number_of-plus : (a b : List Bool) → number_of (plus a b) ≡ bit_xor (number_of a) (number_of b)
 unfolding plus
-number_of-plus [] q = sym (ap (λ (x : ℕ). bit_xor x (number_of q)) number_of-nil ∙ xor_zero_l (number_of q))
-number_of-plus (a ∷ p) [] = sym (ap (bit_xor (number_of (a ∷ p))) number_of-nil ∙ xor_zero_r (number_of (a ∷ p)))
-number_of-plus (a ∷ p) (b ∷ q) =
-    number_of-cons (xor a b) (plus p q)
-    ∙ ap₂ (λ (x y : ℕ). x * 2 + y) (number_of-plus p q) (worth_xor a b)
-    ∙ sym (ap₂ bit_xor (number_of-cons a p) (number_of-cons b q) ∙ xor_block 1 (number_of p) (number_of q) (worth a) (worth b) (worth_lt a) (worth_lt b))
+number_of-plus [] q = cc (number_of-nil, xor_zero_l (number_of q))
+number_of-plus (a ∷ p) [] = cc (number_of-nil, xor_zero_r (number_of (a ∷ p)))
+number_of-plus (a ∷ p) (b ∷ q) = cc (
+  number_of-cons (xor a b) (plus p q),
+  number_of-plus p q,
+  worth_xor a b,
+  number_of-cons a p,
+  number_of-cons b q,
+  xor_block 1 (number_of p) (number_of q) (worth a) (worth b) (worth_lt a) (worth_lt b),
+)
 
 -- A number and that of its bits' complement make all ones.
 pub number_of_not : (bs : List Bool) → number_of bs + number_of (map not bs) + 1 ≡ 2 ^ length bs
@@ -94,10 +98,13 @@ number_of_not (false ∷ bs) = omega (arith, number_of_not bs, pow-suc 2 (length
 pub number_of-bits_of : (k v : ℕ) → number_of (bits_of k v) ≡ v % 2 ^ k
 unfolding bits_of
 number_of-bits_of zero v = number_of-nil ∙ sym (mod-one v)
-number_of-bits_of (suc k) v =
-    number_of-cons (eqb (v % 2) 1) (bits_of k (v / 2))
-    ∙ ap₂ (λ (x y : ℕ). x * 2 + y) (number_of-bits_of k (v / 2)) (worth_lowest v)
-    ∙ sym (ap (λ (x : ℕ). v % x) (pow-suc 2 k) ∙ mod-mul v (pow_pos k) (omega arith))
+number_of-bits_of (suc k) v = cc (
+  number_of-cons (eqb (v % 2) 1) (bits_of k (v / 2)),
+  number_of-bits_of k (v / 2),
+  worth_lowest v,
+  mod-pow-add v k 1,
+  add-one k,
+)
 
 -- The k low bits are k.
 pub bits_of-length : (k v : ℕ) → length (bits_of k v) ≡ k
@@ -110,9 +117,12 @@ pub bits_of-number_of : (k : ℕ) (l : List Bool) → k ≤ length l → bits_of
 unfolding bits_of
 bits_of-number_of zero l h = refl
 bits_of-number_of (suc k) [] h = absurd (not-suc-le-zero h)
-bits_of-number_of (suc k) (b ∷ l) h =
-    ap₂ (λ (x : Bool) (r : List Bool). x ∷ r) (ap (λ (n : ℕ). eqb n 1) (number_of_odd b l) ∙ bit_worth b)
-    (ap (bits_of k) (number_of_half b l) ∙ bits_of-number_of k l (le_of_suc-le-suc h))
+bits_of-number_of (suc k) (b ∷ l) h = cc (
+  number_of_odd b l,
+  number_of_half b l,
+  bit_worth b,
+  bits_of-number_of k l (le_of_suc-le-suc h),
+)
 
 -- The k low bits of n, turned round onto others.
 reversed_onto : (k n : ℕ) (bs : List Bool) → reverse_bits_onto k n (number_of bs) ≡ number_of (reverse_aux (bits_of k n) bs)

@@ -5,7 +5,7 @@
 --   fcs_register, hash_register      the FCS and the hash from the register's number
 -- Assumes nothing.
 use Rattle.std.specs.Prelude.{if◌then◌else◌}
-use mathlib.Core.Path.{◌≡◌, refl, sym, ap, ap₂, ◌∙◌}
+use mathlib.Core.Path.{◌≡◌, refl, sym, ap, ◌∙◌}
 use mathlib.Core.Bool.{Bool, true, false, xor}
 use mathlib.Core.List.{List, [], ◌∷◌, ◌++◌, reverse}
 use Prim.Native.Nat.{ℕ, suc, ◌+◌, ◌-◌, ◌*◌, ◌/◌, ◌%◌, ◌≤◌}
@@ -30,7 +30,7 @@ number_of-zero (b ∷ t) = ap (λ (x : ℕ). worth b + x * 2) (number_of-zero t)
 number_of-times_x : (r : List Bool) → number_of (times_x r) ≡ number_of r / 2
 unfolding number_of
 number_of-times_x [] = refl
-number_of-times_x (h ∷ t) = number_of-zero t ∙ sym (number_of_half h t)
+number_of-times_x (h ∷ t) = cc (number_of-zero t, number_of_half h t)
 
 -- The highest coefficient is the lowest bit.
 worth_highest : (r : List Bool) → worth (highest r) ≡ number_of r % 2
@@ -40,8 +40,8 @@ worth_highest (h ∷ t) = sym (number_of_odd h t)
 
 -- The generator is taken off, or not.
 number_of_choice : (b : Bool) (g r : List Bool) → number_of (if b then plus r g else r) ≡ bit_xor (number_of r) (worth b * number_of g)
-number_of_choice true g r = number_of-plus r g ∙ ap (bit_xor (number_of r)) (sym (one-mul (number_of g)))
-number_of_choice false g r = sym (ap (bit_xor (number_of r)) (zero-mul (number_of g)) ∙ xor_zero_r (number_of r))
+number_of_choice true g r = cc (number_of-plus r g, one-mul (number_of g))
+number_of_choice false g r = cc (zero-mul (number_of g), xor_zero_r (number_of r))
 
 -- A bit alone: above it there is nothing.
 worth_half : (b : Bool) → worth b / 2 ≡ 0
@@ -70,19 +70,17 @@ number_of-feed g r b = cc (
 -- Many bits of the message: they are added to the register as one number, and stepped out.
 pub number_of-feeds : (g r bs : List Bool) → number_of (feeds g r bs) ≡ steps (number_of g) (length bs) (bit_xor (number_of r) (number_of bs))
 unfolding feeds steps
-number_of-feeds g r [] = sym (ap (bit_xor (number_of r)) number_of-nil ∙ xor_zero_r (number_of r))
-number_of-feeds g r (b ∷ bs) =
-    number_of-feeds g (feed g r b) bs
-    ∙ ap (steps p (length bs))
-    (ap₂ bit_xor (number_of-feed g r b) (sym (step_even p (number_of bs)))
-    ∙ sym (step_xor p (bit_xor (number_of r) (worth b)) (number_of bs * 2))
-    ∙ ap (step p)
-    (xor_assoc (number_of r) (worth b) (number_of bs * 2)
-    ∙ ap (bit_xor (number_of r))
-    (xor_comm (worth b) (number_of bs * 2) ∙ xor_shifted (number_of bs) 1 (worth b) (worth_lt b) ∙ sym (number_of-cons b bs))))
-  where
-    p : ℕ
-    p = number_of g
+number_of-feeds g r [] = cc (number_of-nil, xor_zero_r (number_of r))
+number_of-feeds g r (b ∷ bs) = cc (
+  number_of-feeds g (feed g r b) bs,
+  number_of-feed g r b,
+  step_even (number_of g) (number_of bs),
+  step_xor (number_of g) (bit_xor (number_of r) (worth b)) (number_of bs * 2),
+  xor_assoc (number_of r) (worth b) (number_of bs * 2),
+  xor_comm (worth b) (number_of bs * 2),
+  xor_shifted (number_of bs) 1 (worth b) (worth_lt b),
+  number_of-cons b bs,
+)
 
 -- A message in two parts.
 feeds-append : (g r a b : List Bool) → feeds g r (a ++ b) ≡ feeds g (feeds g r a) b
@@ -94,12 +92,13 @@ feeds-append g r (x ∷ a) b = feeds-append g (feed g r x) a b
 pub run-feeds : (g r : List Bool) (s : List ℕ) → number_of (feeds g r (wire s)) ≡ run (number_of g) (number_of r) s
 unfolding wire feeds run
 run-feeds g r [] = refl
-run-feeds g r (b ∷ s) =
-    ap number_of (feeds-append g r (bits_of 8 b) (wire s))
-    ∙ run-feeds g (feeds g r (bits_of 8 b)) s
-    ∙ ap (λ (x : ℕ). run (number_of g) x s)
-    (number_of-feeds g r (bits_of 8 b)
-    ∙ ap₂ (λ (n v : ℕ). steps (number_of g) n (bit_xor (number_of r) v)) (bits_of-length 8 b) (number_of-bits_of 8 b))
+run-feeds g r (b ∷ s) = cc (
+  feeds-append g r (bits_of 8 b) (wire s),
+  run-feeds g (feeds g r (bits_of 8 b)) s,
+  number_of-feeds g r (bits_of 8 b),
+  bits_of-length 8 b,
+  number_of-bits_of 8 b,
+)
 
 -- The generator of 802.3 as a number; computed.
 number_of-generator : number_of generator ≡ reflected
@@ -114,8 +113,7 @@ number_of_ones = refl
 -- The register of 802.3 after the bytes s.
 pub crc32_run : (s : List ℕ) → run reflected 0xFFFF_FFFF s ≡ number_of (crc32 s)
 unfolding crc32
-crc32_run s =
-    sym (run-feeds generator (replicate 32 true) s ∙ ap₂ (λ (p r : ℕ). run p r s) number_of-generator number_of_ones)
+crc32_run s = cc (run-feeds generator (replicate 32 true) s, number_of-generator, number_of_ones)
 
 -- A sum is as long as its longer term.
 length-plus : (a b : List Bool) → length b ≤ length a → length (plus a b) ≡ length a

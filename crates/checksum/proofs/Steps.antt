@@ -5,19 +5,19 @@
 --   peel          the c low bits go by themselves: what a table holds, and the rest
 --   join          a message of n bits and k bits more: added at once, or one after the other
 -- Assumes nothing.
-use mathlib.Core.Path.{◌≡◌, refl, sym, ap, ap₂, ◌∙◌}
+use mathlib.Core.Path.{◌≡◌, refl, ap, ◌∙◌}
 use Prim.Native.Nat.{ℕ, zero, suc, ◌+◌, ◌*◌, ◌/◌, ◌%◌, ◌^◌, ◌<◌}
-use native.Mathlib.Nat.{zero-mul, mul-mod_left, mul-div_cancel, pow-suc, mul_assoc, mul-one, zero-add, suc-add}
+use native.Mathlib.Nat.{pow-suc, mul_assoc, suc-add}
 use native.Mathlib.Omega.{arith}
-use lib.Bits.{bit_xor, xor_comm, xor_assoc, xor_zero_l, xor_zero_r, xor_self, xor_shr, xor_mod}
+use lib.Bits.{bit_xor, xor_comm, xor_assoc, xor_zero_r, xor_self, xor_shr, xor_mod}
 use Rattle.checksum.specs.Register.{step, steps}
 use Rattle.checksum.proofs.Xor.{xor_swap, xor_split, xor_join}
 
 -- A sum of digits times p is the sum of p so many times.
 digit_mul : (p x y : ℕ) → x < 2 → y < 2 → bit_xor x y * p ≡ bit_xor (x * p) (y * p)
-digit_mul p zero y hx hy = sym (ap (λ (z : ℕ). bit_xor z (y * p)) (zero-mul p) ∙ xor_zero_l (y * p))
-digit_mul p (suc zero) zero hx hy = sym (ap (bit_xor (1 * p)) (zero-mul p) ∙ xor_zero_r (1 * p))
-digit_mul p (suc zero) (suc zero) hx hy = zero-mul p ∙ sym (xor_self (1 * p))
+digit_mul p zero y hx hy = grind arith
+digit_mul p (suc zero) zero hx hy = grind (arith, xor_zero_r)
+digit_mul p (suc zero) (suc zero) hx hy = grind (arith, xor_self)
 digit_mul p (suc zero) (suc (suc y)) hx hy = omega arith
 digit_mul p (suc (suc x)) y hx hy = omega arith
 
@@ -40,36 +40,36 @@ steps_xor p (suc n) a b = ap (steps p n) (step_xor p a b) ∙ steps_xor p n (ste
 -- The step of an even number is its half.
 pub step_even : (p m : ℕ) → step p (m * 2) ≡ m
 unfolding step
-step_even p m = ap₂ bit_xor (mul-div_cancel m (omega arith)) (ap (λ (x : ℕ). x * p) (mul-mod_left m 2) ∙ zero-mul p) ∙ xor_zero_r m
+step_even p m = grind (arith, xor_zero_r)
 
 -- n zeros at the low end fall out in n steps.
 pub steps_shift : (p n k m : ℕ) → steps p (n + k) (m * 2 ^ n) ≡ steps p k m
 unfolding steps
-steps_shift p zero k m = ap₂ (steps p) (zero-add k) (mul-one m)
-steps_shift p (suc n) k m =
-    ap (λ (j : ℕ). steps p j (m * 2 ^ suc n)) (suc-add n k)
-    ∙ ap (steps p (n + k)) (ap (step p) (ap (λ (x : ℕ). m * x) (pow-suc 2 n) ∙ sym (mul_assoc m (2 ^ n) 2)) ∙ step_even p (m * 2 ^ n))
-    ∙ steps_shift p n k m
+steps_shift p zero k m = grind arith
+steps_shift p (suc n) k m = cc (suc-add n k, pow-suc 2 n, mul_assoc m (2 ^ n) 2, step_even p (m * 2 ^ n), steps_shift p n k m)
 
 -- n + k steps are n steps and then k.
 pub steps_add : (p n k x : ℕ) → steps p (n + k) x ≡ steps p k (steps p n x)
 unfolding steps
-steps_add p zero k x = ap (λ (j : ℕ). steps p j x) (zero-add k)
-steps_add p (suc n) k x = ap (λ (j : ℕ). steps p j x) (suc-add n k) ∙ steps_add p n k (step p x)
+steps_add p zero k x = grind arith
+steps_add p (suc n) k x = cc (suc-add n k, steps_add p n k (step p x))
 
 -- The c low bits of x go by themselves, and the rest of x starts c steps later.
 pub peel : (p c k x : ℕ) → steps p (c + k) x ≡ bit_xor (steps p (c + k) (x % 2 ^ c)) (steps p k (x / 2 ^ c))
-peel p c k x =
-    ap (steps p (c + k)) (sym (xor_split x c))
-    ∙ steps_xor p (c + k) (x / 2 ^ c * 2 ^ c) (x % 2 ^ c)
-    ∙ ap (λ (y : ℕ). bit_xor y (steps p (c + k) (x % 2 ^ c))) (steps_shift p c k (x / 2 ^ c))
-    ∙ xor_comm (steps p k (x / 2 ^ c)) (steps p (c + k) (x % 2 ^ c))
+peel p c k x = cc (
+  xor_split x c,
+  steps_xor p (c + k) (x / 2 ^ c * 2 ^ c) (x % 2 ^ c),
+  steps_shift p c k (x / 2 ^ c),
+  xor_comm (steps p k (x / 2 ^ c)) (steps p (c + k) (x % 2 ^ c)),
+)
 
 -- n bits a and k bits b behind them, added to the register r at once, or one after the other.
 pub join : (p n k r a b : ℕ) → a < 2 ^ n → steps p (n + k) (bit_xor r (a + b * 2 ^ n)) ≡ steps p k (bit_xor (steps p n (bit_xor r a)) b)
-join p n k r a b h =
-    ap (λ (y : ℕ). steps p (n + k) (bit_xor r y)) (xor_join a b n h)
-    ∙ ap (steps p (n + k)) (sym (xor_assoc r a (b * 2 ^ n)))
-    ∙ steps_xor p (n + k) (bit_xor r a) (b * 2 ^ n)
-    ∙ ap₂ bit_xor (steps_add p n k (bit_xor r a)) (steps_shift p n k b)
-    ∙ sym (steps_xor p k (steps p n (bit_xor r a)) b)
+join p n k r a b h = cc (
+  xor_join a b n h,
+  xor_assoc r a (b * 2 ^ n),
+  steps_xor p (n + k) (bit_xor r a) (b * 2 ^ n),
+  steps_add p n k (bit_xor r a),
+  steps_shift p n k b,
+  steps_xor p k (steps p n (bit_xor r a)) b,
+)

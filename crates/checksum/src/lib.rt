@@ -67,7 +67,7 @@ impl Table<'_> {
     }
 
     // The register after the bytes of s, from any start: eight bytes a turn, then the rest.
-    #[tactic(auto, using(crate::proofs::Bytes::run_turns, crate::proofs::Bytes::run_more, std::proofs::lemmas::List::Sums::fold_more), unfolding(crate::specs::Register::run))]
+    #[tactic(auto, using(crate::proofs::Bytes::run_more, std::proofs::lemmas::List::Sums::fold_more), unfolding(crate::specs::Register::run))]
     fn update(self, start: u32, s: &[u8]) -> u32
         ensures { result ≡ run reflected start s.now }
     {
