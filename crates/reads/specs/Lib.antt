@@ -1,3 +1,2 @@
 -- What the contracts of reads cite beside the definitions of paper.
 pub mod Oldest
-pub mod Sources
