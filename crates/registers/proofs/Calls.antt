@@ -2,7 +2,7 @@
 --   reset_anew                            reset, on any state
 --   rx_within, tx_within                  what RX_FIFO_INF and TX_FIFO_INF ask of the counts of a state in range
 --   refuses_so, keeps_so, sets_so         a call that decides to refuse; to answer a value and change nothing, or the registers alone
---   write_refused .. rx_dumped              each call and case
+--   write_refused .. rx_dumped            each call and case
 -- Assumes nothing.
 use Rattle.std.specs.Prelude.{Err, Ok}
 use mathlib.Core.Path.{◌≡◌, refl, ap}
