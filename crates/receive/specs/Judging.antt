@@ -1,5 +1,5 @@
 -- The judging of an arriving frame in the order of the code. Paper 01, An arriving frame.
---   free_words s, free_statuses s    the free RX data words and RX statuses of a state
+--   free f s              the free words of FIFO f in a state
 --   judged                lines 4 to 7, for a frame that lines 1 to 3 let through
 --   verdict_of            all seven lines, for a state
 --   Sized, Fitting        a frame has the bytes that the filter and the status see; what is known of a frame that is Stored
@@ -13,21 +13,19 @@ use Rattle.paper.specs.declared.State.{State}
 use Rattle.paper.specs.declared.Arrival.{Arrival}
 use Rattle.paper.specs.declared.Arrival.TheVariants.{Discarded, Filtered}
 use Rattle.paper.specs.Words.{bit}
+use Rattle.paper.specs.declared.Fifo.{Fifo}
 use Rattle.paper.specs.declared.Fifo.TheVariants.{RxData, RxStatus}
-use Rattle.paper.specs.Memory.{size}
+use Rattle.paper.specs.Memory.{size, ring}
 use Rattle.paper.specs.Registers.{RXALL, one_more, with_drops}
 use Rattle.paper.specs.Filter.{passes}
 use Rattle.paper.specs.Status.{Look, look, kept}
-use Rattle.paper.specs.Arrivals.{words_for, data_words, room, discards, by_room, arrival}
+use Rattle.paper.specs.Arrivals.{Verdict, words_for, data_words, room, discards, by_room, arrival}
 use Rattle.paper.specs.Acts.{with_registers, arrives}
 use Rattle.paper.specs.Machine.{World, apply}
 
 -- 01, line 6: "Free RX data words", "free RX status"
-abbrev pub free_words : State → ℕ
-free_words s = size RxData s.control.registers.n - s.rxdata.count
-
-abbrev pub free_statuses : State → ℕ
-free_statuses s = size RxStatus s.control.registers.n - s.rxstatus.count
+abbrev pub free : Fifo → State → ℕ
+free f s = size f s.control.registers.n - (ring f s).count
 
 -- 01, line 4, line 5: "Filter says no and RXALL is clear", lines 6 and 7: the last lines of `arrival`, word for word
 abbrev pub judged : Registers → (words statuses : ℕ) → Look → Arrival
@@ -36,8 +34,8 @@ judged r words statuses l =
     if not (passes r l.head) && not (bit RXALL r.maccr) then Filtered else
     by_room (room (kept l) words statuses)
 
-abbrev pub verdict_of : State → Look → Arrival
-verdict_of s l = arrival s.control.registers (free_words s) (free_statuses s) l
+abbrev pub verdict_of : State → Look → Verdict
+verdict_of s l = arrival s.control.registers (free RxData s) (free RxStatus s) l
 
 -- 01, lines 1 and 4: a frame past them has 14 to 2,048 bytes
 pub record Sized (len : ℕ) : Type 0 where
@@ -51,7 +49,7 @@ pub record Fitting (s : State) (len : ℕ) : Type 0 where
   pub status : s.rxstatus.count < size RxStatus s.control.registers.n
 
 -- what `step` makes of the state s and the memory m where the line a answers
-abbrev pub arrived_at : Arrival → State → (m frame : List ℕ) → (flags : ℕ) → World
+abbrev pub arrived_at : Verdict → State → (m frame : List ℕ) → (flags : ℕ) → World
 arrived_at a s m frame flags = apply (arrives a s.control (look frame flags) (data_words frame)) (record { state = s; memory = m })
 
 pub record Leaves (w : World) (t : State) (m : List ℕ) : Type 0 where

@@ -2,109 +2,78 @@
 // written before all of it is known to fit.
 //   judge     the seven lines
 //   status    the RX status
+// The lent memory is a slice of 4,096 words, as the paper names it, and so each function that writes it asks for that length.
 #![tactic(auto)]
 
 mod judge;
 mod status;
 
-ghost use Rattle.std.specs.Prelude.{◌≡◌, ◌<◌, [], ◌∷◌, length};
-ghost use Rattle.paper.specs.declared.Fifo.TheVariants.{RxData, RxStatus};
-ghost use Rattle.paper.specs.Memory.{size, base, puts};
+ghost use Rattle.std.specs.Prelude.{◌≡◌, Ok, length};
+ghost use Rattle.paper.specs.Memory.{words_lent};
 ghost use Rattle.paper.specs.Status.{look};
-ghost use Rattle.paper.specs.Arrivals.{data_words, arrival_answer};
+ghost use Rattle.paper.specs.Arrivals.{arrival_answer};
 ghost use Rattle.paper.specs.Calls.{Arrive};
 ghost use Rattle.paper.specs.Promises.{told, told_of};
-ghost use Rattle.rings.specs.Rings.{Changed};
-ghost use Rattle.entry.specs.Entry.{Entered};
 ghost use Rattle.receive.specs.Judging.{verdict_of, Fitting, arrived_at, Leaves, dropped};
 
-use paper::{Arrival, Arrived, Ring, State};
-use rings::split;
+use entry::Sound;
+use paper::{Arrival, Fifo, Refusal, Reply, State};
 
-// Puts a frame's data words into RX data.
-fn put_data(s: State, mem: &mut [u32], frame: &[u8]) -> Ring
-    requires entered { Entered s mem.old }
-    requires fitting { Fitting s (length frame.now) }
-    ensures { Changed (base RxData s.control.registers.n) (size RxData s.control.registers.n) (puts (data_words frame.now)) s.rxdata result mem.old mem.new }
-{
-    let n = s.control.registers.n;
-    let r = s.rxdata;
-    rings::put_frame(
-        mem,
-        split::rx_data_base(n),
-        split::rx_data_size(n),
-        r,
-        frame,
-    )
-}
-
-// Puts a status into RX status, where one is free.
-fn put_status(s: State, mem: &mut [u32], w: u32) -> Ring
-    requires entered { Entered s mem.old }
-    requires free { s.rxstatus.count < size RxStatus s.control.registers.n }
-    ensures { Changed (base RxStatus s.control.registers.n) (size RxStatus s.control.registers.n) (puts (w ∷ [])) s.rxstatus result mem.old mem.new }
-{
-    let n = s.control.registers.n;
-    let r = s.rxstatus;
-    rings::put(
-        mem,
-        split::rx_status_base(n),
-        split::rx_status_size(n),
-        r,
-        w,
-    )
+// A frame as it arrives, with its wire flags.
+#[derive(Clone, Copy)]
+pub struct Wire<'a> {
+    pub frame: &'a [u8],
+    pub flags: u32,
 }
 
 // 01, line 7: "Stored: data words ..; one status".
-fn store(s: State, mem: &mut [u32], frame: &[u8], flags: u32) -> State
-    requires entered { Entered s mem.old }
-    requires fitting { Fitting s (length frame.now) }
-    ensures { Leaves (arrived_at (Arrival.Stored) s mem.old frame.now flags) result mem.new }
+fn store(x: Sound, mem: &mut [u32], w: Wire) -> State
+    requires lent { length mem.old ≡ words_lent }
+    requires fitting { Fitting x.state (length w.frame.now) }
+    ensures { Leaves (arrived_at (Ok Arrival.Stored) x.state mem.old w.entry.frame.now w.entry.flags) result mem.new }
 {
-    let w = status::status_of(s.control.registers, frame, flags);
-    let data = put_data(s, mem, frame);
-    let statuses = put_status(s, mem, w);
-    let mut after = s;
-    after.rxdata = data;
-    after.rxstatus = statuses;
-    after
+    let s = x.state;
+    let status = status::status_of(s.control.registers, w);
+    let rxdata = x.part(Fifo::RxData).put_frame(mem, s.rxdata, w.frame);
+    let rxstatus = x.part(Fifo::RxStatus).put(mem, s.rxstatus, status);
+    State {
+        rxdata,
+        rxstatus,
+        ..s
+    }
 }
 
 // 01, line 6: "Dropped, RX_DROP plus one and no other change"; the count after FFFFFFFFh is 0.
-fn count_drop(s: State) -> State
+fn count_drop(mut s: State) -> State
     ensures { result ≡ dropped s }
 {
-    let drops = std::num::wrapping_add_u32(s.control.registers.drops, 1);
-    let mut after = s;
-    after.control.registers.drops = drops;
-    after
+    s.control.registers.drops = s.control.registers.drops.wrapping_add(1);
+    s
 }
 
-// What the line that answers does: Stored writes, Dropped counts, the others leave all as it was.
-fn act_on(a: Arrival, s: State, mem: &mut [u32], frame: &[u8], flags: u32) -> State
-    requires entered { Entered s mem.old }
-    requires judged { a ≡ verdict_of s (look frame.now flags) }
-    ensures { Leaves (arrived_at a s mem.old frame.now flags) result mem.new }
+// What the line that answers does: Stored writes, Dropped counts, the others, and a refusal, leave all as it was.
+#[tactic(auto, unfolding(paper::specs::Acts::arrives, paper::specs::Machine::apply, paper::specs::Memory::ring_after, paper::specs::Memory::memory_after))]
+fn act_on(a: Result<Arrival, Refusal>, x: Sound, mem: &mut [u32], w: Wire) -> State
+    requires lent { length mem.old ≡ words_lent }
+    requires judged { a ≡ verdict_of x.state (look w.frame.now w.flags) }
+    ensures { Leaves (arrived_at a x.state mem.old w.entry.frame.now w.entry.flags) result mem.new }
 {
     match a {
-        Arrival::Stored => store(s, mem, frame, flags),
-        Arrival::Dropped => count_drop(s),
-        Arrival::Refused(_) => s,
-        Arrival::Ignored => s,
-        Arrival::Discarded => s,
-        Arrival::Filtered => s,
+        Ok(Arrival::Stored) => store(x, mem, w),
+        Ok(Arrival::Dropped) => count_drop(x.state),
+        Ok(Arrival::Ignored | Arrival::Discarded | Arrival::Filtered) | Err(_) => x.state,
     }
 }
 
 // An arriving frame with its flags: the line that answers, and the state after it.
-pub fn arrive(s: State, mem: &mut [u32], frame: &[u8], flags: u32) -> Arrived
-    requires { Entered s mem.old }
-    ensures { told (arrival_answer result.answer) result.state mem.new ≡ told_of (Arrive frame.now flags) s mem.old }
+pub fn arrive(x: Sound, mem: &mut [u32], frame: &[u8], flags: u32) -> Reply<Arrival>
+    requires { length mem.old ≡ words_lent }
+    ensures { told (arrival_answer result.answer) result.state mem.new ≡ told_of (Arrive frame.now flags) x.state mem.old }
 {
-    let a = judge::verdict(s, frame, flags);
-    let after = act_on(a, s, mem, frame, flags);
-    Arrived {
+    let w = Wire { frame, flags };
+    let a = judge::verdict(x, w);
+    Reply {
         answer: a,
-        state: after,
+        state: act_on(a, x, mem, w),
     }
 }

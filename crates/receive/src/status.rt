@@ -5,8 +5,9 @@ ghost use Rattle.paper.specs.Status.{wrong_length, look, longest, status};
 ghost use Rattle.receive.specs.Judging.{Sized};
 ghost use Rattle.receive.specs.Marks.{kind_of, marks_of};
 
+use crate::Wire;
+use filter::Head;
 use paper::Registers;
-use words::bytes::word_of;
 use words::fields::bit_is_set;
 use words::status::{Marks, rx_status};
 
@@ -23,7 +24,7 @@ fn length_or_type(part: &[u8]) -> u32
     requires { 2 ≤ length part.now }
     ensures { result ≡ slice_index part.now 0 * 2 ^ 8 + slice_index part.now 1 }
 {
-    word_of(part[1], part[0], 0, 0)
+    u32::from(u16::from_be_bytes([part[0], part[1]]))
 }
 
 // 01: "12: V is at most 1,500 and either V + 18 > L, or L > 64 and V + 18 is not L (ours)."
@@ -38,17 +39,14 @@ fn wrong_length(v: u32, len: u32) -> bool
 }
 
 // What the destination says.
-fn kind_of(r: Registers, frame: &[u8]) -> Kind
-    requires { 14 ≤ length frame.now }
-    ensures { result ≡ kind_of r (take 14 frame.now) }
+fn kind_of(r: Registers, head: &Head) -> Kind
+    ensures { result ≡ kind_of r head.now }
 {
-    let passed = filter::passes(r, frame);
-    let broadcast = filter::is_broadcast(frame);
-    let group = filter::is_group(frame);
+    let broadcast = filter::is_broadcast(head);
     Kind {
-        miss: !passed,
-        broadcast: broadcast,
-        group: group & !broadcast,
+        miss: !filter::passes(r, head),
+        broadcast,
+        group: filter::is_group(head) & !broadcast,
     }
 }
 
@@ -56,33 +54,30 @@ fn kind_of(r: Registers, frame: &[u8]) -> Kind
 fn marks(k: Kind, v: u32, len: u32, flags: u32, badfcs: bool) -> Marks
     ensures { result ≡ marks_of k v len flags badfcs }
 {
-    let wrong = wrong_length(v, len);
-    let collision = bit_is_set(6, flags);
-    let mii = bit_is_set(3, flags);
-    let dribble = bit_is_set(2, flags);
     Marks {
         miss: k.miss,
         broadcast: k.broadcast,
-        wronglength: wrong,
+        wronglength: wrong_length(v, len),
         runt: len < 64,
         group: k.group,
         long: 1518 < len,
-        collision: collision,
+        collision: bit_is_set(6, flags),
         typed: 1500 < v,
-        mii: mii,
-        dribble: dribble,
-        badfcs: badfcs,
+        mii: bit_is_set(3, flags),
+        dribble: bit_is_set(2, flags),
+        badfcs,
     }
 }
 
 // The RX status of a frame.
-pub fn status_of(r: Registers, frame: &[u8], flags: u32) -> u32
-    requires { Sized (length frame.now) }
-    ensures { result ≡ status longest (not (passes r (take 14 frame.now))) (look frame.now flags) }
+pub fn status_of(r: Registers, w: Wire) -> u32
+    requires { Sized (length w.frame.now) }
+    ensures { result ≡ status longest (not (passes r (take 14 w.entry.frame.now))) (look w.entry.frame.now w.entry.flags) }
 {
-    let len = frame.len() as u32;
-    let v = length_or_type(&frame[12..]);
-    let fits = checksum::fcs_fits(frame);
-    let m = marks(kind_of(r, frame), v, len, flags, !fits);
+    let len = w.frame.len() as u32;
+    let head = w.frame.first_chunk::<14>().unwrap();
+    let v = length_or_type(&w.frame[12..]);
+    let fits = checksum::fcs_fits(w.frame);
+    let m = marks(kind_of(r, head), v, len, w.flags, !fits);
     rx_status(len, m)
 }
