@@ -4,7 +4,7 @@
 --   arrived_told          the contract of an arrival: what it meets, and the world after what that does
 -- Assumes nothing.
 use Rattle.std.specs.Prelude.{Err, Ok}
-use Rattle.std.proofs.Common.{◌≡◌, ℕ, true, not, ◌&&◌, eqb, ltb, List, [], ◌∷◌, length, take, sym, refl, ap, ◌∙◌, subst, arith, ltb-false}
+use Rattle.std.proofs.Common.{◌≡◌, ℕ, true, not, eqb, ltb, List, [], ◌∷◌, length, take, sym, refl, ap, ◌∙◌, subst, arith, ltb-false}
 use Rattle.paper.specs.declared.Control.{Control}
 use Rattle.paper.specs.declared.Ring.{Ring}
 use Rattle.paper.specs.declared.State.{State}
@@ -30,7 +30,8 @@ use Rattle.entry.proofs.Parts.{in_ring}
 use Rattle.rings.specs.declared.Part.{Part}
 use Rattle.rings.specs.Rings.{Changed}
 use Rattle.rings.specs.Parts.{PartOf}
-use Rattle.receive.specs.Judging.{free, verdict_of, Sized, Fitting, arrived_at, Leaves}
+use Rattle.receive.specs.declared.Wire.{Wire}
+use Rattle.receive.specs.Judging.{seen, free, verdict_of, Sized, Fitting, arrived_at, Leaves}
 
 -- Lines 1 and 4 let a frame that is Stored through.
 stored_sized : (r : Registers) (words statuses : ℕ) (l : Look) → Ok Stored ≡ arrival r words statuses l → Sized l.len
@@ -60,14 +61,14 @@ stored_fits s l range a =
     }
 
 -- Stored puts the data words, then the status.
-pub stored_leaves : (s : State) (m frame : List ℕ) (flags : ℕ) {p q : Part} {d e : Ring} {m' m'' : List ℕ} {w : ℕ}
+pub stored_leaves : (s : State) (m : List ℕ) (w : Wire) {p q : Part} {d e : Ring} {m' m'' : List ℕ} {v : ℕ}
     → PartOf RxData s.control.registers.n p → PartOf RxStatus s.control.registers.n q
-    → w ≡ status longest (not (passes s.control.registers (take 14 frame))) (look frame flags)
-    → Changed p.base p.size (puts (data_words frame)) s.rxdata d m m'
-    → Changed q.base q.size (puts (w ∷ [])) s.rxstatus e m' m''
-    → Leaves (arrived_at (Ok Stored) s m frame flags) (with_ring RxStatus e (with_ring RxData d s)) m''
+    → v ≡ status longest (not (passes s.control.registers (seen w).head)) (seen w)
+    → Changed p.base p.size (puts (data_words w.frame.now)) s.rxdata d m m'
+    → Changed q.base q.size (puts (v ∷ [])) s.rxstatus e m' m''
+    → Leaves (arrived_at (Ok Stored) s m w) (with_ring RxStatus e (with_ring RxData d s)) m''
 unfolding arrives apply ring_after memory_after
-stored_leaves s m frame flags first second e words last =
+stored_leaves s m w first second e words last =
     record {
       state = rw (words.ring, last.ring);
       memory = rw (last.memory, words.memory, e, first.first, first.words, second.first, second.words);
@@ -84,18 +85,17 @@ arrives_nothing_sent (Ok Dropped) k l words = refl
 arrives_nothing_sent (Ok Stored) k l words = refl
 
 -- What is decided of an arrival, by the rings' counts.
-arrive_decided : (s : State) (m frame : List ℕ) (flags : ℕ)
-    → decide (Arrive frame flags) s.control (waits (world s m))
-    ≡ arrives (verdict_of s (look frame flags)) s.control (look frame flags) (data_words frame)
+arrive_decided : (s : State) (m : List ℕ) (w : Wire)
+    → decide (Arrive w.frame.now w.flags) s.control (waits (world s m)) ≡ arrives (verdict_of s (seen w)) s.control (seen w) (data_words w.frame.now)
 unfolding decide
-arrive_decided s m frame flags = ap (λ (v : Four ℕ). arrive s.control v (look frame flags) (data_words frame)) (levels_are s m)
+arrive_decided s m w = ap (λ (v : Four ℕ). arrive s.control v (seen w) (data_words w.frame.now)) (levels_are s m)
 
 -- What an arrival meets, with the world after what that does, is what an arrival is told.
-pub arrived_told : (s : State) (m frame : List ℕ) (flags : ℕ) → length m ≡ words_lent → in_range s ≡ true → (a : Verdict) → a ≡ verdict_of s (look frame flags)
-    → (t : State) (m' : List ℕ) → Leaves (arrived_at a s m frame flags) t m' → told (arrival_answer a) t m' ≡ told_of (Arrive frame flags) s m
-arrived_told s m frame flags lent range a line t m' after =
-    let does = arrives a s.control (look frame flags) (data_words frame) in
-    let decided = arrive_decided s m frame flags ∙ ap (λ (x : Verdict). arrives x s.control (look frame flags) (data_words frame)) (sym line) in
-    let nothing = arrives_nothing_sent a s.control (look frame flags) (data_words frame) in
-    let called = told_decided (Arrive frame flags) s m lent range refl does decided nothing in
-    rw (after.state, after.memory, ← arrives_answer a s.control (look frame flags) (data_words frame)) (sym called)
+pub arrived_told : (s : State) (m : List ℕ) (w : Wire) → length m ≡ words_lent → in_range s ≡ true → (a : Verdict) → a ≡ verdict_of s (seen w)
+    → (t : State) (m' : List ℕ) → Leaves (arrived_at a s m w) t m' → told (arrival_answer a) t m' ≡ told_of (Arrive w.frame.now w.flags) s m
+arrived_told s m w lent range a met t m' after =
+    let does = arrives a s.control (seen w) (data_words w.frame.now) in
+    let decided = arrive_decided s m w ∙ ap (λ (x : Verdict). arrives x s.control (seen w) (data_words w.frame.now)) (sym met) in
+    let nothing = arrives_nothing_sent a s.control (seen w) (data_words w.frame.now) in
+    let called = told_decided (Arrive w.frame.now w.flags) s m lent range refl does decided nothing in
+    rw (after.state, after.memory, ← arrives_answer a s.control (seen w) (data_words w.frame.now)) (sym called)

@@ -1,13 +1,14 @@
 -- The judging of an arriving frame in the order of the code. Paper 01, An arriving frame.
+--   seen w                what a rule may see of the frame w, with its wire flags
 --   free f s              the free words of FIFO f in a state
 --   judged                lines 4 to 7, for a frame that lines 1 to 3 let through
 --   verdict_of            all seven lines, for a state
 --   Sized, Fitting        a frame has the bytes that the filter and the status see; what is known of a frame that is Stored
---   arrived_at            the world after what the line that answers does
+--   arrived_at            the world after what the line that answers, or the refusal, does
 --   Leaves w t m          the state t and the memory m are those of the world w
 --   dropped s             the state s after one more dropped frame
 -- Assumes nothing.
-use Rattle.std.specs.Prelude.{if◌then◌else◌, ◌≡◌, ℕ, ◌+◌, ◌-◌, ◌<◌, ◌≤◌, not, ◌&&◌, List, Ok}
+use Rattle.std.specs.Prelude.{if◌then◌else◌, ◌≡◌, ℕ, ◌+◌, ◌-◌, ◌<◌, ◌≤◌, not, ◌&&◌, List}
 use Rattle.paper.specs.declared.Registers.{Registers}
 use Rattle.paper.specs.declared.State.{State}
 use Rattle.paper.specs.declared.Arrival.{Arrival}
@@ -22,6 +23,11 @@ use Rattle.paper.specs.Status.{Look, look, kept}
 use Rattle.paper.specs.Arrivals.{Verdict, words_for, data_words, room, discards, by_room, arrival}
 use Rattle.paper.specs.Acts.{with_registers, arrives}
 use Rattle.paper.specs.Machine.{World, apply}
+use Rattle.receive.specs.declared.Wire.{Wire}
+
+-- 01: "bytes from destination address to FCS, length L, and flags"
+abbrev pub seen : Wire → Look
+seen w = look w.frame.now w.flags
 
 -- 01, line 6: "Free RX data words", "free RX status"
 abbrev pub free : Fifo → State → ℕ
@@ -48,9 +54,9 @@ pub record Fitting (s : State) (len : ℕ) : Type 0 where
   pub words : s.rxdata.count + words_for len ≤ size RxData s.control.registers.n
   pub status : s.rxstatus.count < size RxStatus s.control.registers.n
 
--- what `step` makes of the state s and the memory m where the line a answers
-abbrev pub arrived_at : Verdict → State → (m frame : List ℕ) → (flags : ℕ) → World
-arrived_at a s m frame flags = apply (arrives a s.control (look frame flags) (data_words frame)) (record { state = s; memory = m })
+-- what `step` makes of the state s and the memory m where a is what the frame w meets
+abbrev pub arrived_at : Verdict → State → (m : List ℕ) → Wire → World
+arrived_at a s m w = apply (arrives a s.control (seen w) (data_words w.frame.now)) (record { state = s; memory = m })
 
 pub record Leaves (w : World) (t : State) (m : List ℕ) : Type 0 where
   pub state : t ≡ w.state

@@ -3,9 +3,9 @@ ghost use Rattle.std.specs.Prelude.{◌≡◌, not, ◌&&◌, ◌||◌};
 ghost use Rattle.paper.specs.Words.{bit};
 ghost use Rattle.paper.specs.Registers.{RXALL, PASSBAD};
 ghost use Rattle.paper.specs.Filter.{passes};
-ghost use Rattle.paper.specs.Status.{look, is_runt, collision};
+ghost use Rattle.paper.specs.Status.{is_runt, collision};
 ghost use Rattle.paper.specs.Arrivals.{refuses_length, room};
-ghost use Rattle.receive.specs.Judging.{free, judged, verdict_of};
+ghost use Rattle.receive.specs.Judging.{seen, free, judged, verdict_of};
 
 use crate::Wire;
 use entry::Sound;
@@ -22,7 +22,7 @@ fn refuses_length(len: usize) -> bool
 
 // 01, line 4: "with PASSBAD clear, L below 64 or collision seen".
 fn is_bad(r: Registers, w: Wire) -> bool
-    ensures { result ≡ (not (bit PASSBAD r.maccr) && (is_runt (look w.entry.frame.now w.entry.flags) || collision (look w.entry.frame.now w.entry.flags))) }
+    ensures { result ≡ (not (bit PASSBAD r.maccr) && (is_runt (seen w.entry) || collision (seen w.entry))) }
 {
     !bit_is_set(16, r.maccr) & ((w.frame.len() < 64) | bit_is_set(6, w.flags))
 }
@@ -47,6 +47,7 @@ fn has_room(len: usize, words: u32, statuses: u32) -> Room
 }
 
 // The words that are free in a FIFO.
+#[tactic(auto, using(entry::proofs::Parts::in_ring))]
 fn free(x: Sound, f: Fifo) -> u32
     ensures { result ≡ free f x.state }
 {
@@ -55,7 +56,7 @@ fn free(x: Sound, f: Fifo) -> u32
 
 // Lines 4 to 7, with so many data words and statuses free.
 fn judge(r: Registers, words: u32, statuses: u32, w: Wire) -> Arrival
-    ensures { result ≡ judged r words statuses (look w.entry.frame.now w.entry.flags) }
+    ensures { result ≡ judged r words statuses (seen w.entry) }
 {
     // line 4: "L below 14 (ours)"
     let Some(head) = w.frame.first_chunk::<14>() else {
@@ -76,7 +77,7 @@ fn judge(r: Registers, words: u32, statuses: u32, w: Wire) -> Arrival
 // The first line that applies (01: "The first line that applies answers").
 #[tactic(auto, unfolding(paper::specs::Arrivals::arrival))]
 pub fn verdict(x: Sound, w: Wire) -> Result<Arrival, Refusal>
-    ensures { result ≡ verdict_of x.state (look w.entry.frame.now w.entry.flags) }
+    ensures { result ≡ verdict_of x.state (seen w.entry) }
 {
     if refuses_length(w.frame.len()) {
         return Err(Refusal::ArrivingLength);

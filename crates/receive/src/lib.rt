@@ -10,18 +10,17 @@ mod status;
 
 ghost use Rattle.std.specs.Prelude.{◌≡◌, Ok, length};
 ghost use Rattle.paper.specs.Memory.{words_lent};
-ghost use Rattle.paper.specs.Status.{look};
 ghost use Rattle.paper.specs.Arrivals.{arrival_answer};
 ghost use Rattle.paper.specs.Calls.{Arrive};
 ghost use Rattle.paper.specs.Promises.{told, told_of};
-ghost use Rattle.receive.specs.Judging.{verdict_of, Fitting, arrived_at, Leaves, dropped};
+ghost use Rattle.receive.specs.Judging.{seen, verdict_of, Fitting, arrived_at, Leaves, dropped};
 
 use entry::Sound;
 use paper::{Arrival, Fifo, Refusal, Reply, State};
 
 // A frame as it arrives, with its wire flags.
 #[derive(Clone, Copy)]
-pub struct Wire<'a> {
+pub(crate) struct Wire<'a> {
     pub frame: &'a [u8],
     pub flags: u32,
 }
@@ -30,7 +29,7 @@ pub struct Wire<'a> {
 fn store(x: Sound, mem: &mut [u32], w: Wire) -> State
     requires lent { length mem.old ≡ words_lent }
     requires fitting { Fitting x.state (length w.frame.now) }
-    ensures { Leaves (arrived_at (Ok Arrival.Stored) x.state mem.old w.entry.frame.now w.entry.flags) result mem.new }
+    ensures { Leaves (arrived_at (Ok Arrival.Stored) x.state mem.old w.entry) result mem.new }
 {
     let s = x.state;
     let status = status::status_of(s.control.registers, w);
@@ -55,8 +54,8 @@ fn count_drop(mut s: State) -> State
 #[tactic(auto, unfolding(paper::specs::Acts::arrives, paper::specs::Machine::apply, paper::specs::Memory::ring_after, paper::specs::Memory::memory_after))]
 fn act_on(a: Result<Arrival, Refusal>, x: Sound, mem: &mut [u32], w: Wire) -> State
     requires lent { length mem.old ≡ words_lent }
-    requires judged { a ≡ verdict_of x.state (look w.frame.now w.flags) }
-    ensures { Leaves (arrived_at a x.state mem.old w.entry.frame.now w.entry.flags) result mem.new }
+    requires judged { a ≡ verdict_of x.state (seen w) }
+    ensures { Leaves (arrived_at a x.state mem.old w.entry) result mem.new }
 {
     match a {
         Ok(Arrival::Stored) => store(x, mem, w),

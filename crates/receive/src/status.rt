@@ -1,8 +1,8 @@
 // The RX status of a frame that is stored (paper 01, An arriving frame, "RX status").
-ghost use Rattle.std.specs.Prelude.{◌≡◌, ◌+◌, ◌*◌, ◌^◌, ◌≤◌, not, length, take, slice_index};
+ghost use Rattle.std.specs.Prelude.{◌≡◌, ◌+◌, ◌*◌, ◌^◌, ◌≤◌, not, length, slice_index};
 ghost use Rattle.paper.specs.Filter.{passes};
-ghost use Rattle.paper.specs.Status.{wrong_length, look, longest, status};
-ghost use Rattle.receive.specs.Judging.{Sized};
+ghost use Rattle.paper.specs.Status.{wrong_length, longest, status};
+ghost use Rattle.receive.specs.Judging.{seen, Sized};
 ghost use Rattle.receive.specs.Marks.{kind_of, marks_of};
 
 use crate::Wire;
@@ -72,7 +72,7 @@ fn marks(k: Kind, v: u32, len: u32, flags: u32, badfcs: bool) -> Marks
 // The RX status of a frame.
 pub fn status_of(r: Registers, w: Wire) -> u32
     requires { Sized (length w.frame.now) }
-    ensures { result ≡ status longest (not (passes r (take 14 w.entry.frame.now))) (look w.entry.frame.now w.entry.flags) }
+    ensures { result ≡ status longest (not (passes r (seen w.entry).head)) (seen w.entry) }
 {
     let len = w.frame.len() as u32;
     let head = w.frame.first_chunk::<14>().unwrap();

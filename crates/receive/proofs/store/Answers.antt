@@ -18,5 +18,5 @@ put-rxstatus-requires c =
 
 pub returns : goal.returns
 returns c =
-    stored_leaves c.args.x.state c.args.mem.now c.args.w.frame.now c.args.w.flags
+    stored_leaves c.args.x.state c.args.mem.now c.args.w
     c.part.ensures c.part-2.ensures c.status_of-status.ensures c.put_frame-rxdata.ensures c.put-rxstatus.ensures
