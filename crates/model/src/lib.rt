@@ -47,49 +47,49 @@ pub fn set_split(s: State, mem: &[u32], n: u32) -> Reply<u32>
 pub fn split(s: State, mem: &[u32]) -> Reply<u32>
     ensures { told result.answer result.state mem.now ≡ told_of Split s mem.now }
 {
-    entered(s, mem.len(), |x| registers::split(x))
+    entered(s, mem.len(), registers::split)
 }
 
 // Answers RX_FIFO_INF: statuses waiting in bits 23 to 16, data bytes waiting in 15 to 0.
 pub fn rx_fifo_inf(s: State, mem: &[u32]) -> Reply<u32>
     ensures { told result.answer result.state mem.now ≡ told_of RxFifoInf s mem.now }
 {
-    entered(s, mem.len(), |x| registers::rx_fifo_inf(x))
+    entered(s, mem.len(), registers::rx_fifo_inf)
 }
 
 // Answers TX_FIFO_INF: statuses waiting in bits 23 to 16, free data bytes in 15 to 0.
 pub fn tx_fifo_inf(s: State, mem: &[u32]) -> Reply<u32>
     ensures { told result.answer result.state mem.now ≡ told_of TxFifoInf s mem.now }
 {
-    entered(s, mem.len(), |x| registers::tx_fifo_inf(x))
+    entered(s, mem.len(), registers::tx_fifo_inf)
 }
 
 // Answers RX_DROP, the frames dropped since it was last read or reset, and clears it.
 pub fn rx_drop(s: State, mem: &[u32]) -> Reply<u32>
     ensures { told result.answer result.state mem.now ≡ told_of RxDrop s mem.now }
 {
-    entered(s, mem.len(), |x| registers::rx_drop(x))
+    entered(s, mem.len(), registers::rx_drop)
 }
 
 // Restarts TX data and forgets every packet and the transmit error. Refuses 5 (TXEN set).
 pub fn dump_tx_data(s: State, mem: &[u32]) -> Reply<u32>
     ensures { told result.answer result.state mem.now ≡ told_of DumpTxData s mem.now }
 {
-    entered(s, mem.len(), |x| registers::dump_tx_data(x))
+    entered(s, mem.len(), registers::dump_tx_data)
 }
 
 // Restarts TX status.
 pub fn dump_tx_status(s: State, mem: &[u32]) -> Reply<u32>
     ensures { told result.answer result.state mem.now ≡ told_of DumpTxStatus s mem.now }
 {
-    entered(s, mem.len(), |x| registers::dump_tx_status(x))
+    entered(s, mem.len(), registers::dump_tx_status)
 }
 
 // Restarts RX data and RX status. Refuses 5 (RXEN set).
 pub fn dump_rx(s: State, mem: &[u32]) -> Reply<u32>
     ensures { told result.answer result.state mem.now ≡ told_of DumpRx s mem.now }
 {
-    entered(s, mem.len(), |x| registers::dump_rx(x))
+    entered(s, mem.len(), registers::dump_rx)
 }
 
 // A frame arrives, from destination address to FCS, with its wire flags. Refuses 1 (length 0 or above 2,048) and 2 (flags other than bits 6, 3 and 2).
