@@ -1,3 +1,2 @@
 -- Laws that the proofs of receive cite.
 pub mod Lines
-pub mod Bits

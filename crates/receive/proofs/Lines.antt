@@ -4,7 +4,7 @@
 --   arrived_told          the contract of an arrival: what it meets, and the world after what that does
 -- Assumes nothing.
 use Rattle.std.specs.Prelude.{Err, Ok}
-use Rattle.std.proofs.Common.{◌≡◌, ℕ, true, not, eqb, ltb, List, [], ◌∷◌, length, take, sym, refl, ap, ◌∙◌, subst, arith, ltb-false}
+use Rattle.std.proofs.Common.{◌≡◌, ℕ, true, not, eqb, ltb, List, [], ◌∷◌, length, sym, refl, ap, ◌∙◌, subst, arith, ltb-false}
 use Rattle.paper.specs.declared.Control.{Control}
 use Rattle.paper.specs.declared.Ring.{Ring}
 use Rattle.paper.specs.declared.State.{State}
@@ -16,7 +16,7 @@ use Rattle.paper.specs.Words.{bit}
 use Rattle.paper.specs.Registers.{RXEN}
 use Rattle.paper.specs.Memory.{words_lent, Four, puts, with_ring, ring_after, memory_after}
 use Rattle.paper.specs.Filter.{passes}
-use Rattle.paper.specs.Status.{Look, look, longest, status}
+use Rattle.paper.specs.Status.{Look, longest, status}
 use Rattle.paper.specs.Arrivals.{Verdict, refuses_length, good_flags, discards, data_words, arrival, arrival_answer}
 use Rattle.paper.specs.Refusals.{in_range}
 use Rattle.paper.specs.Calls.{Arrive}

@@ -70,6 +70,7 @@ fn marks(k: Kind, v: u32, len: u32, flags: u32, badfcs: bool) -> Marks
 }
 
 // The RX status of a frame.
+#[tactic(auto, unfolding(paper::specs::Status::status, words::specs::Status::status_of))]
 pub fn status_of(r: Registers, w: Wire) -> u32
     requires { Sized (length w.frame.now) }
     ensures { result ≡ status longest (not (passes r (seen w.entry).head)) (seen w.entry) }
