@@ -1,8 +1,6 @@
 -- What the functions of rings ask, for each FIFO of a state that passed the entry test.
 --   split_range           n is 2 to 14
 --   in_ring               each ring is in range
---   part_inside           its part lies in the memory
---   some_wait             no word or more can be taken
 --   words_fit             so many words more fit, where the ring has room for them
 -- Assumes nothing.
 use mathlib.Core.Path.{◌≡◌}
@@ -13,14 +11,13 @@ use native.Mathlib.Omega.{arith}
 use lib.ListN.{length}
 use Rattle.paper.specs.declared.State.{State}
 use Rattle.paper.specs.declared.Fifo.{Fifo}
-use Rattle.paper.specs.Memory.{size, base}
+use Rattle.paper.specs.Memory.{words_lent, size, base}
 use Rattle.paper.specs.Refusals.{in_range}
 use Rattle.paper.proofs.Memory.{InRing, within}
 use Rattle.paper.specs.Memory.{ring}
 use Rattle.paper.proofs.Entry.{ready}
 use Rattle.paper.proofs.Fifos.{each}
-use Rattle.rings.specs.Rings.{HasRoom, Waits}
-use Rattle.entry.specs.Entry.{Entered}
+use Rattle.rings.specs.Rings.{HasRoom}
 use Rattle.entry.specs.Parts.{split_of}
 
 -- In range, n is 2 to 14.
@@ -37,25 +34,13 @@ in_ring s e =
     (record { at_lt = r.rxdata_at; count_le = r.rxdata_count })
     (record { at_lt = r.rxstatus_at; count_le = r.rxstatus_count })
 
-module _ (f : Fifo) (s : State) (m : List ℕ) (e : Entered s m) where
-  -- A FIFO's part lies in the memory.
-  pub part_inside : base f (split_of s) + size f (split_of s) ≤ length m
-  part_inside =
-      let n = split_range s e.range in
-      omega (arith, within f (split_of s) n.0 n.1, e.lent)
-
-  -- The words of a ring can be taken.
-  pub some_wait : Waits (size f (split_of s)) (ring f s).at (ring f s).count 0
-  some_wait =
-      let r = in_ring s e.range f in
-      record { oldest = r.at_lt; held = r.count_le; there = omega arith }
-
-  -- Words for which there is room can be put.
-  pub words_fit : (k : ℕ) → (ring f s).count + k ≤ size f (split_of s)
-      → HasRoom (base f (split_of s)) (size f (split_of s)) (ring f s).at (ring f s).count k (length m)
-  words_fit k h =
-      record {
-        inside = part_inside;
-        oldest = (in_ring s e.range f).at_lt;
-        room = h;
-      }
+-- Words for which there is room can be put.
+pub words_fit : (f : Fifo) (s : State) (m : List ℕ) → in_range s ≡ true → length m ≡ words_lent → (k : ℕ) → (ring f s).count + k ≤ size f (split_of s)
+    → HasRoom (base f (split_of s)) (size f (split_of s)) (ring f s).at (ring f s).count k (length m)
+words_fit f s m range long k h =
+    let n = split_range s range in
+    record {
+      inside = omega (arith, within f (split_of s) n.0 n.1, long);
+      oldest = (in_ring s range f).at_lt;
+      room = h;
+    }

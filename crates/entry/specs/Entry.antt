@@ -1,8 +1,7 @@
 -- The test that every call but reset makes first. Paper 01, Refusal numbers: "Order: 14, 15 (ranges), then …".
 --   entry_of s len         the refusal of the test, for a state and the number of words lent; none where it is passed
---   Entered s m            what a state and a lent memory that passed it keep to
 -- Assumes nothing.
-use Rattle.std.specs.Prelude.{if◌then◌else◌, ◌≡◌, true, not, List, ℕ, eqb, length, Option, Some, None}
+use Rattle.std.specs.Prelude.{if◌then◌else◌, not, ℕ, eqb, Option, Some, None}
 use Rattle.paper.specs.declared.State.{State}
 use Rattle.paper.specs.declared.Refusal.{Refusal}
 use Rattle.paper.specs.declared.Refusal.TheVariants.{MemoryLength, OutOfRange}
@@ -15,7 +14,3 @@ entry_of s len =
     if not (eqb len words_lent) then Some MemoryLength else
     if not (in_range s) then Some OutOfRange else
     None
-
-pub record Entered (s : State) (m : List ℕ) : Type 0 where
-  pub lent : length m ≡ words_lent
-  pub range : in_range s ≡ true

@@ -9,12 +9,12 @@ use Rattle.receive.proofs.store.Goals as goal
 pub put_frame-rxdata-requires : goal.put_frame-rxdata-requires
 put_frame-rxdata-requires c =
     rw (c.part.ensures.first, c.part.ensures.words)
-    (words_fit RxData c.args.x.state c.args.mem.now (record { lent = c.requires.lent; range = c.args.x.range }) (words_for (length c.args.w.frame.now)) c.requires.fitting.words)
+    (words_fit RxData c.args.x.state c.args.mem.now c.args.x.range c.requires.lent (words_for (length c.args.w.frame.now)) c.requires.fitting.words)
 
 pub put-rxstatus-requires : goal.put-rxstatus-requires
 put-rxstatus-requires c =
     rw (c.part-2.ensures.first, c.part-2.ensures.words)
-    (words_fit RxStatus c.args.x.state c.put_frame-rxdata.new.mem (record { lent = omega (arith, c.put_frame-rxdata.auto.mem); range = c.args.x.range }) 1 (omega (arith, c.requires.fitting.status)))
+    (words_fit RxStatus c.args.x.state c.put_frame-rxdata.new.mem c.args.x.range (omega (arith, c.put_frame-rxdata.auto.mem)) 1 (omega (arith, c.requires.fitting.status)))
 
 pub returns : goal.returns
 returns c =
