@@ -1,20 +1,17 @@
 // Part `held`: the seventeen calls on a state of which every FIFO holds words (docs/REHEARSAL.md).
-use crate::calls::Prefix;
-use crate::frames::Space;
-use crate::trials::Memory;
-use crate::{calls, trials};
-use paper::{Control, Expect, Packet, Port, Ring, State};
+use crate::calls;
+use crate::trials::Bench;
+use paper::{Control, Expect, Packet, Port, Registers, Ring, State};
 use std::io;
 
-// H(MAC_CR).
-fn holding(maccr: u32, mem: &[u32]) -> State {
-    let s = trials::base(5, maccr, mem);
-    let control = s.control;
-    let mut registers = control.registers;
-    registers.drops = 9;
+// H(MAC_CR), from B(5, MAC_CR).
+fn holding(s: State) -> State {
     State {
         control: Control {
-            registers: registers,
+            registers: Registers {
+                drops: 9,
+                ..s.control.registers
+            },
             port: Port {
                 expect: Expect::CommandA(Packet::Known { b: 64, sizes: 10 }),
                 failed: true,
@@ -28,10 +25,11 @@ fn holding(maccr: u32, mem: &[u32]) -> State {
     }
 }
 
-pub fn part(rt: &impl Print, mem: &mut Memory, space: &mut Space) -> io::Result<()> {
-    trials::begin(rt, "held", mem)?;
-    let off = holding(0, mem);
-    calls::each(rt, Prefix::Off, off, mem, space)?;
-    let on = holding(0x0000_000C, mem);
-    calls::each(rt, Prefix::On, on, mem, space)
+pub fn part(bench: &mut Bench<impl Print>) -> io::Result<()> {
+    bench.begin("held")?;
+    for (before, maccr) in [("off", 0), ("on", 0x0000_000C)] {
+        let s = bench.base(5, maccr);
+        calls::each(bench, &before, holding(s))?;
+    }
+    Ok(())
 }

@@ -1,102 +1,40 @@
-// What is printed: numbers, answers, and the name of a part (docs/REHEARSAL.md, How things are written).
+// Answers as they are printed (docs/REHEARSAL.md, How things are written).
 ghost use Rattle.std.specs.Prelude.{◌≡◌};
 ghost use Rattle.paper.specs.Arrivals.{arrival_answer};
-ghost use Rattle.paper.specs.Refusals.{number, said};
 
-use paper::{Answer, Arrival, Refusal, Said};
-use std::io;
+use paper::{Answer, Arrival, Refusal, Reply, Said};
+use std::fmt;
 
-pub fn text(rt: &impl Print, s: &str) -> io::Result<()> {
-    rt.print(s)
-}
-
-// Eight hexadecimal digits.
-pub fn value(rt: &impl Print, v: u32) -> io::Result<()> {
-    print!(rt; "{v:08x}")
-}
-
-// A decimal number.
-pub fn number(rt: &impl Print, k: usize) -> io::Result<()> {
-    rt.print(k)
-}
-
-// The line that begins a part.
-pub fn part(rt: &impl Print, name: &str) -> io::Result<()> {
-    println!(rt; "== {name}")
-}
-
-// 01's number of a refusal.
-fn number_of(k: Refusal) -> u32
-    ensures { result ≡ number k }
+// What a frame's arrival is answered, its answer by 01's value: the line that applied.
+pub fn reply(a: Reply<Arrival>) -> Reply<u32>
+    ensures { result ≡ record { answer = arrival_answer a.answer; state = a.state } }
 {
-    match k {
-        Refusal::ArrivingLength => 1,
-        Refusal::OtherBits => 2,
-        Refusal::NoRegister => 3,
-        Refusal::BadValue => 4,
-        Refusal::NotNow => 5,
-        Refusal::ErrorStands => 6,
-        Refusal::BadCommand => 7,
-        Refusal::Disagrees => 8,
-        Refusal::DataFull => 9,
-        Refusal::SendingOff => 10,
-        Refusal::NothingThere => 11,
-        Refusal::StatusFull => 12,
-        Refusal::OutShort => 13,
-        Refusal::MemoryLength => 14,
-        Refusal::OutOfRange => 15,
+    Reply {
+        answer: a.answer.map(u32::from),
+        state: a.state,
     }
 }
 
-// An answer in numbers: the refusal's, 0 for none, and the value, 0 with every refusal.
-pub fn numbers(a: Answer) -> Said
-    ensures { result ≡ said a }
-{
-    match a {
-        Answer::Value(v) => Said {
-            refusal: 0,
-            value: v,
-        },
-        Answer::Refused(k) => Said {
-            refusal: number_of(k),
-            value: 0,
-        },
+// An answer, printed as SAID.
+#[derive(Clone, Copy)]
+pub struct InNumbers(pub Answer);
+
+impl fmt::Display for InNumbers {
+    fn fmt<W: fmt::Write>(&self, f: &mut fmt::Formatter<W>) -> fmt::Result {
+        let Said { refusal, value } = Said::from(self.0);
+        write!(f, "{refusal} {value:08x}")
     }
 }
 
-// An answer in numbers.
-pub fn said(rt: &impl Print, a: Answer) -> io::Result<()> {
-    let s = numbers(a);
-    number(rt, s.refusal as usize)?;
-    text(rt, " ")?;
-    value(rt, s.value)
-}
+// The answer to an arriving frame, printed as ANSWER.
+#[derive(Clone, Copy)]
+pub struct ByName(pub Result<Arrival, Refusal>);
 
-// The answer to an arriving frame, by its name.
-pub fn arrival(rt: &impl Print, a: Arrival) -> io::Result<()> {
-    match a {
-        Arrival::Refused(k) => {
-            text(rt, "refused ")?;
-            number(rt, number_of(k) as usize)
+impl fmt::Display for ByName {
+    fn fmt<W: fmt::Write>(&self, f: &mut fmt::Formatter<W>) -> fmt::Result {
+        match self.0 {
+            Ok(line) => write!(f, "{line:?}"),
+            Err(k) => write!(f, "refused {}", u32::from(k)),
         }
-        Arrival::Ignored => text(rt, "Ignored"),
-        Arrival::Discarded => text(rt, "Discarded"),
-        Arrival::Filtered => text(rt, "Filtered"),
-        Arrival::Dropped => text(rt, "Dropped"),
-        Arrival::Stored => text(rt, "Stored"),
-    }
-}
-
-// 01's value for the answer to an arriving frame: the line that applied.
-pub fn answer(a: Arrival) -> Answer
-    ensures { result ≡ arrival_answer a }
-{
-    match a {
-        Arrival::Refused(k) => Answer::Refused(k),
-        Arrival::Ignored => Answer::Value(3),
-        Arrival::Discarded => Answer::Value(4),
-        Arrival::Filtered => Answer::Value(5),
-        Arrival::Dropped => Answer::Value(6),
-        Arrival::Stored => Answer::Value(7),
     }
 }

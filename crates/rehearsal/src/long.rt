@@ -1,45 +1,29 @@
 // Part `long`: 10,000 steps by drawn numbers, each answer of which goes into one digest (docs/REHEARSAL.md).
-use crate::frames::{Space, To};
-use crate::trials::Memory;
-use crate::{digests, frames, lines, settings, trials};
-use paper::{Answer, Reply, State};
+use crate::digests::Digest;
+use crate::frames::{Frame, To};
+use crate::trials::{Bench, Digests};
+use crate::{frames, lines, settings, trials};
+use paper::{Reply, Said, State};
 use std::io;
 
-// The state, what the page calls x, and the digest of all answers so far.
-#[derive(Clone, Copy)]
-struct Run {
+// The lent memory, the state, what the page calls x, and the digest of all answers so far.
+#[derive(Drop)]
+struct Run<'a> {
+    mem: &'a mut [u32],
     state: State,
     x: u32,
-    answers: u32,
+    answers: Digest,
 }
 
-fn draw(x: u32) -> u32 {
-    let left = x ^ x << 13;
-    let right = left ^ left >> 17;
-    right ^ right << 5
-}
-
-// The run after a call: its state, its answer in the digest.
-fn noted(run: Run, r: Reply) -> Run {
-    let state = r.state;
-    let answer = r.answer;
-    let said = lines::numbers(answer);
-    let d = digests::with(run.answers, said.refusal);
-    Run {
-        state: state,
-        x: run.x,
-        answers: digests::with(d, said.value),
-    }
-}
-
-fn length_of(b: u32) -> u32 {
+fn length_of(b: u32) -> u16 {
     let more = b / 4;
-    match b % 4 {
+    let length = match b % 4 {
         0 => 14 + more % 64,
         1 => 60 + more % 8,
         2 => 64 + more % 512,
         _ => 1490 + more % 64,
-    }
+    };
+    length as u16
 }
 
 fn destination_of(c: u32) -> To {
@@ -52,10 +36,10 @@ fn destination_of(c: u32) -> To {
     }
 }
 
-fn type_of(c: u32, length: u32) -> u32 {
+fn kind_of(c: u32, length: u16) -> u16 {
     match c / 8 % 4 {
-        0 => { if length < 18 { 0 } else { length - 18 } }
-        1 => trials::TYPE,
+        0 => length.saturating_sub(18),
+        1 => frames::TYPE,
         2 => 46,
         _ => 0x0600,
     }
@@ -71,44 +55,6 @@ fn flags_of(c: u32) -> u32 {
     }
 }
 
-fn arrive(i: usize, run: Run, b: u32, c: u32, mem: &mut Memory, space: &mut Space) -> Run {
-    let length = length_of(b);
-    frames::make(
-        space,
-        length as usize,
-        type_of(c, length),
-        i,
-        destination_of(c),
-    );
-    let a = trials::arrive(run.state, mem, space, length as usize, flags_of(c));
-    let state = a.state;
-    let met = a.answer;
-    let answer = lines::answer(met);
-    let r = Reply {
-        answer: answer,
-        state: state,
-    };
-    noted(run, r)
-}
-
-// So many data words are read.
-fn read(run: Run, count: u32, mem: &[u32]) -> Run {
-    let mut at = run;
-    for _ in 0..count {
-        at = noted(at, model::rx_data_read(at.state, mem));
-    }
-    at
-}
-
-fn look(run: Run, b: u32, mem: &[u32]) -> Run {
-    match b % 4 {
-        0 => noted(run, model::rx_status_peek(run.state, mem)),
-        1 => noted(run, model::rx_fifo_inf(run.state, mem)),
-        2 => noted(run, model::rx_drop(run.state, mem)),
-        _ => noted(run, model::tx_fifo_inf(run.state, mem)),
-    }
-}
-
 // MAC_CR by c: the mode bits, RXEN, PASSBAD, RXALL, BCAST.
 fn maccr_of(c: u32) -> u32 {
     let rxen: u32 = if c / 32 % 8 == 0 { 0 } else { 4 };
@@ -116,112 +62,130 @@ fn maccr_of(c: u32) -> u32 {
     settings::maccr_of(c % 32) | rxen | bits
 }
 
-fn wrote(run: Run, register: u32, value: u32, mem: &[u32]) -> Run {
-    noted(run, model::mac_write(run.state, mem, register, value))
-}
+impl Run<'_> {
+    fn draw(&mut self) -> u32 {
+        let left = self.x ^ self.x << 13;
+        let right = left ^ left >> 17;
+        self.x = right ^ right << 5;
+        self.x
+    }
 
-fn write(run: Run, b: u32, c: u32, mem: &[u32]) -> Run {
-    match b % 8 {
-        5 => wrote(run, 2, 0x0000_5544, mem),
-        6 => wrote(run, 3, 0x3322_1102, mem),
-        7 => wrote(run, 4 + c % 3, c, mem),
-        _ => wrote(run, 1, maccr_of(c), mem),
+    // The state after a call; its answer goes into the digest.
+    fn note(&mut self, r: Reply<u32>) {
+        let Said { refusal, value } = Said::from(r.answer);
+        self.answers = self.answers.with(refusal).with(value);
+        self.state = r.state;
+    }
+
+    // A call that writes no memory.
+    fn call<F: FnOnce(State, &[u32]) -> Reply<u32>>(&mut self, call: F)
+        requires { F.IsAlwaysCallable call }
+    {
+        let r = call(self.state, self.mem);
+        self.note(r);
+    }
+
+    fn arrive(&mut self, i: usize, b: u32, c: u32) {
+        let length = length_of(b);
+        let frame = Frame {
+            length,
+            kind: kind_of(c, length),
+            take: i,
+            to: destination_of(c),
+        };
+        let a = trials::arrive(self.state, self.mem, frame, flags_of(c));
+        self.note(lines::reply(a));
+    }
+
+    // So many data words are read.
+    fn read(&mut self, count: u32) {
+        for _ in 0..count {
+            self.call(model::rx_data_read);
+        }
+    }
+
+    fn look(&mut self, b: u32) {
+        match b % 4 {
+            0 => self.call(model::rx_status_peek),
+            1 => self.call(model::rx_fifo_inf),
+            2 => self.call(model::rx_drop),
+            _ => self.call(model::tx_fifo_inf),
+        }
+    }
+
+    fn mac_write(&mut self, register: u32, value: u32) {
+        self.call(|s, mem| model::mac_write(s, mem, register, value));
+    }
+
+    fn write(&mut self, b: u32, c: u32) {
+        match b % 8 {
+            5 => self.mac_write(2, 0x0000_5544),
+            6 => self.mac_write(3, 0x3322_1102),
+            7 => self.mac_write(4 + c % 3, c),
+            _ => self.mac_write(1, maccr_of(c)),
+        }
+    }
+
+    // Receiving is turned off, RX dumped, n set, and receiving turned on.
+    fn resize(&mut self, n: u32) {
+        self.mac_write(1, 0);
+        self.call(model::dump_rx);
+        self.call(|s, mem| model::set_split(s, mem, n));
+        self.mac_write(1, 4);
+    }
+
+    fn restart(&mut self, b: u32, c: u32) {
+        match b % 4 {
+            0 => self.resize(c % 17),
+            1 => self.call(model::dump_rx),
+            2 => self.call(model::dump_tx_status),
+            _ => self.call(model::dump_tx_data),
+        }
+    }
+
+    fn reset(&mut self, b: u32, c: u32) {
+        if b % 8 == 0 {
+            self.call(model::reset);
+            self.mac_write(1, 4);
+        } else {
+            self.call(|s, mem| model::mac_read(s, mem, 1 + c % 6));
+        }
+    }
+
+    // Step i.
+    fn step(&mut self, i: usize) {
+        let a = self.draw();
+        let b = self.draw();
+        let c = self.draw();
+        match a % 16 {
+            0..=6 => self.arrive(i, b, c),
+            7..=9 => self.read(1 + b % 120),
+            10 | 11 => self.call(model::rx_status_pop),
+            12 => self.look(b),
+            13 => self.write(b, c),
+            14 => self.restart(b, c),
+            _ => self.reset(b, c),
+        }
     }
 }
 
-// Receiving is turned off, RX dumped, n set, and receiving turned on.
-fn resize(run: Run, n: u32, mem: &[u32]) -> Run {
-    let off = wrote(run, 1, 0, mem);
-    let empty = noted(off, model::dump_rx(off.state, mem));
-    let set = noted(empty, model::set_split(empty.state, mem, n));
-    wrote(set, 1, 4, mem)
-}
-
-fn restart(run: Run, b: u32, c: u32, mem: &[u32]) -> Run {
-    match b % 4 {
-        0 => resize(run, c % 17, mem),
-        1 => noted(run, model::dump_rx(run.state, mem)),
-        2 => noted(run, model::dump_tx_status(run.state, mem)),
-        _ => noted(run, model::dump_tx_data(run.state, mem)),
-    }
-}
-
-fn reset(run: Run, b: u32, c: u32, mem: &[u32]) -> Run {
-    if b % 8 == 0 {
-        return wrote(noted(run, model::reset(run.state, mem)), 1, 4, mem);
-    }
-    noted(run, model::mac_read(run.state, mem, 1 + c % 6))
-}
-
-// The calls of a step that write no memory.
-fn other(run: Run, a: u32, b: u32, c: u32, mem: &[u32]) -> Run {
-    match a % 16 {
-        7..=9 => read(run, 1 + b % 120, mem),
-        10 | 11 => noted(run, model::rx_status_pop(run.state, mem)),
-        12 => look(run, b, mem),
-        13 => write(run, b, c, mem),
-        14 => restart(run, b, c, mem),
-        _ => reset(run, b, c, mem),
-    }
-}
-
-// Step i.
-fn step(i: usize, run: Run, mem: &mut Memory, space: &mut Space) -> Run {
-    let a = draw(run.x);
-    let b = draw(a);
-    let c = draw(b);
-    let mut at = run;
-    at.x = c;
-    if a % 16 < 7 {
-        return arrive(i, at, b, c, mem, space);
-    }
-    other(at, a, b, c, mem)
-}
-
-// Five hundred steps.
-fn steps(from: usize, run: Run, mem: &mut Memory, space: &mut Space) -> Run {
-    let mut at = run;
-    for k in 0..500 {
-        at = step(from % 10000 + k, at, mem, space);
-    }
-    at
-}
-
-fn line(rt: &impl Print, made: usize, run: Run, mem: &[u32]) -> io::Result<()> {
-    let answers = run.answers;
-    print!(rt; "step {made}: answers {answers:08x}")?;
-    trials::digests(rt, run.state, mem)
-}
-
-// Five hundred steps, and their line.
-fn stretch(
-    rt: &impl Print,
-    j: usize,
-    run: Run,
-    mem: &mut Memory,
-    space: &mut Space,
-) -> io::Result<Run> {
-    let from = j % 20 * 500;
-    let at = steps(from, run, mem, space);
-    line(rt, from + 500, at, mem)?;
-    Ok(at)
-}
-
-fn stretches(rt: &impl Print, run: Run, mem: &mut Memory, space: &mut Space) -> io::Result<()> {
-    let mut at = run;
-    for j in 0..20 {
-        at = stretch(rt, j, at, mem, space)?;
+// All steps; a line after each five hundred.
+pub fn part(bench: &mut Bench<impl Print>) -> io::Result<()> {
+    bench.begin("long")?;
+    let mut run = Run {
+        state: bench.base(5, trials::RXEN),
+        mem: &mut *bench.mem,
+        x: 2463534242,
+        answers: Digest::EMPTY,
+    };
+    for i in 0..10_000 {
+        run.step(i);
+        let made = i + 1;
+        if made % 500 == 0 {
+            let answers = run.answers;
+            let digests = Digests::of(run.state, run.mem);
+            println!(bench.rt; "step {made}: answers {answers} {digests}")?;
+        }
     }
     Ok(())
-}
-
-pub fn part(rt: &impl Print, mem: &mut Memory, space: &mut Space) -> io::Result<()> {
-    trials::begin(rt, "long", mem)?;
-    let s = trials::base(5, trials::RXEN, mem);
-    let run = Run {
-        state: s,
-        x: 2463534242,
-        answers: 0,
-    };
-    stretches(rt, run, mem, space)
 }

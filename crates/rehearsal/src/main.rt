@@ -1,6 +1,6 @@
 // A rehearsal's takes arrive until receive memory is full and are read back; then bad input is tried, and a long run by drawn numbers. What is tried and how it is printed is said in
 // docs/REHEARSAL.md, which also says where the expected lines come from.
-//   lines      what is printed
+//   lines      answers as they are printed
 //   digests    digests of words, states and memory
 //   frames     the frames that arrive
 //   trials     the states that trials begin with, and the lines of a trial
@@ -30,25 +30,26 @@ mod takes;
 mod trials;
 
 use std::io;
+use trials::Bench;
 
 fn main(rt: HostRuntime) -> io::Result<()> {
-    let mut words: [u32; 4096] = [0; 4096];
-    let mem: &mut [u32; 4096] = &mut words;
-    let mut bytes: [u8; 2049] = [0; 2049];
-    let space: &mut [u8; 2049] = &mut bytes;
-    takes::part(&rt, 5, mem, space)?;
-    takes::part(&rt, 14, mem, space)?;
-    let mut more: [u32; 4097] = [0; 4097];
-    calls::part(&rt, &mut more, space)?;
-    forged::part(&rt, mem, space)?;
-    held::part(&rt, mem, space)?;
-    arrivals::lengths(&rt, mem, space)?;
-    arrivals::flags(&rt, mem, space)?;
-    settings::registers(&rt, mem)?;
-    settings::restarts(&rt, mem, space)?;
-    arrivals::types(&rt, mem, space)?;
-    arrivals::fcs(&rt, mem, space)?;
-    filters::part(&rt, mem, space)?;
-    room::part(&rt, mem, space)?;
-    long::part(&rt, mem, space)
+    let mut words = [0; 4096];
+    let bench = &mut Bench {
+        rt: &rt,
+        mem: &mut words,
+    };
+    takes::part(bench, 5)?;
+    takes::part(bench, 14)?;
+    calls::part(&rt)?;
+    forged::part(bench)?;
+    held::part(bench)?;
+    arrivals::lengths(bench)?;
+    arrivals::flags(bench)?;
+    settings::registers(bench)?;
+    settings::restarts(bench)?;
+    arrivals::types(bench)?;
+    arrivals::fcs(bench)?;
+    filters::part(bench)?;
+    room::part(bench)?;
+    long::part(bench)
 }

@@ -1,76 +1,60 @@
 // Part `room`: a frame that just fits, and one that does not, for want of words or of a status (docs/REHEARSAL.md).
-use crate::frames::Space;
-use crate::lines::text;
+use crate::frames::Frame;
 use crate::trials;
-use crate::trials::Memory;
-use paper::State;
+use crate::trials::Bench;
+use paper::{Registers, State};
 use std::io;
 
 // A frame of this length arrives.
-fn arrives(
-    rt: &impl Print,
+fn arrives(bench: &mut Bench<impl Print>, name: &str, s: State, length: u16) -> io::Result<State> {
+    bench.arrives(format_args!("{name} {length}"), s, Frame::long(length), 0)
+}
+
+// Frames of these lengths arrive, each on the state that the one before left.
+fn in_turn(
+    bench: &mut Bench<impl Print>,
     name: &str,
     s: State,
-    long: usize,
-    mem: &mut Memory,
-    space: &mut Space,
+    lengths: &[u16],
 ) -> io::Result<State> {
-    print!(rt; "{name}{long}")?;
-    trials::arrives_new(rt, s, mem, space, long, trials::TYPE, long, 0)
-}
-
-// A state with another RX_DROP.
-fn with_drops(s: State, drops: u32) -> State {
-    let mut after = s;
-    let mut control = s.control;
-    let mut registers = control.registers;
-    registers.drops = drops;
-    control.registers = registers;
-    after.control = control;
-    after
-}
-
-fn empty(rt: &impl Print, mem: &mut Memory, space: &mut Space) -> io::Result<()> {
-    let s = trials::base(14, trials::RXEN, mem);
-    arrives(rt, "empty ", s, 1920, mem, space)?;
-    arrives(rt, "empty ", s, 1921, mem, space)?;
-    let last = with_drops(s, 0xFFFF_FFFF);
-    let full = arrives(rt, "drops ", last, 1518, mem, space)?;
-    let none = arrives(rt, "drops ", full, 1518, mem, space)?;
-    arrives(rt, "drops ", none, 1518, mem, space)?;
-    Ok(())
-}
-
-fn data(rt: &impl Print, mem: &mut Memory, space: &mut Space) -> io::Result<()> {
-    let s = trials::base(14, trials::PASSBAD, mem);
-    let near = arrives(rt, "data ", s, 1856, mem, space)?;
-    let short = arrives(rt, "data ", near, 65, mem, space)?;
-    let full = arrives(rt, "data ", short, 64, mem, space)?;
-    arrives(rt, "data ", full, 14, mem, space)?;
-    Ok(())
-}
-
-// One frame more than there are statuses.
-fn too_many(rt: &impl Print, s: State, mem: &mut Memory, space: &mut Space) -> io::Result<State> {
     let mut at = s;
-    for _ in 0..33u32 {
-        at = arrives(rt, "statuses ", at, 14, mem, space)?;
+    for length in lengths {
+        at = arrives(bench, name, at, *length)?;
     }
     Ok(at)
 }
 
-fn statuses(rt: &impl Print, mem: &mut Memory, space: &mut Space) -> io::Result<()> {
-    let s = trials::base(14, trials::PASSBAD, mem);
-    let full = too_many(rt, s, mem, space)?;
-    text(rt, "pop")?;
-    let freed = trials::called(rt, model::rx_status_pop(full, mem), mem)?;
-    arrives(rt, "statuses ", freed, 14, mem, space)?;
+fn empty(bench: &mut Bench<impl Print>) -> io::Result<()> {
+    let s = bench.base(14, trials::RXEN);
+    arrives(bench, "empty", s, 1920)?;
+    arrives(bench, "empty", s, 1921)?;
+    let registers = Registers {
+        drops: 0xFFFF_FFFF,
+        ..s.control.registers
+    };
+    let last = trials::with_registers(s, registers);
+    in_turn(bench, "drops", last, &[1518; 3])?;
     Ok(())
 }
 
-pub fn part(rt: &impl Print, mem: &mut Memory, space: &mut Space) -> io::Result<()> {
-    trials::begin(rt, "room", mem)?;
-    empty(rt, mem, space)?;
-    data(rt, mem, space)?;
-    statuses(rt, mem, space)
+fn data(bench: &mut Bench<impl Print>) -> io::Result<()> {
+    let s = bench.base(14, trials::PASSBAD);
+    in_turn(bench, "data", s, &[1856, 65, 64, 14])?;
+    Ok(())
+}
+
+// One frame more than there are statuses.
+fn statuses(bench: &mut Bench<impl Print>) -> io::Result<()> {
+    let s = bench.base(14, trials::PASSBAD);
+    let full = in_turn(bench, "statuses", s, &[14; 33])?;
+    let freed = bench.call("pop", full, model::rx_status_pop)?;
+    arrives(bench, "statuses", freed, 14)?;
+    Ok(())
+}
+
+pub fn part(bench: &mut Bench<impl Print>) -> io::Result<()> {
+    bench.begin("room")?;
+    empty(bench)?;
+    data(bench)?;
+    statuses(bench)
 }

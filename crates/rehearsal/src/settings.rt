@@ -1,45 +1,31 @@
 // Parts `registers` and `restarts`: register numbers and values, setting n, and dumps (docs/REHEARSAL.md).
-use crate::frames::Space;
-use crate::lines::text;
-use crate::trials::Memory;
-use crate::{lines, trials};
+use crate::frames::{Frame, To};
+use crate::trials;
+use crate::trials::Bench;
 use paper::State;
-use std::io;
+use std::{fmt, io};
 
-// Register k is read, and 0 is written to it.
-fn register(rt: &impl Print, s: State, k: u32, mem: &[u32]) -> io::Result<()> {
-    print!(rt; "read {k:08x}")?;
-    trials::called(rt, model::mac_read(s, mem, k), mem)?;
-    print!(rt; "write {k:08x}")?;
-    trials::called(rt, model::mac_write(s, mem, k, 0), mem)?;
-    Ok(())
-}
-
-// A value is written to ADDRH.
-fn addrh(rt: &impl Print, s: State, v: u32, mem: &[u32]) -> io::Result<()> {
-    print!(rt; "addrh {v:08x}")?;
-    trials::called(rt, model::mac_write(s, mem, 2, v), mem)?;
-    Ok(())
-}
-
-// A value is written to MAC_CR.
-fn maccr(rt: &impl Print, s: State, v: u32, mem: &[u32]) -> io::Result<()> {
-    lines::value(rt, v)?;
-    trials::called(rt, model::mac_write(s, mem, 1, v), mem)?;
-    Ok(())
-}
-
-// Bit i of MAC_CR alone.
-fn maccr_bit(rt: &impl Print, s: State, i: u32, mem: &[u32]) -> io::Result<()> {
-    text(rt, "maccr ")?;
-    maccr(rt, s, trials::bit(i), mem)
-}
-
-// Each bit of MAC_CR alone.
-fn maccr_bits(rt: &impl Print, s: State, mem: &[u32]) -> io::Result<()> {
-    for i in 0..32u32 {
-        maccr_bit(rt, s, i, mem)?;
+// Each register is read, and 0 is written to it.
+fn numbers(bench: &Bench<impl Print>, s: State) -> io::Result<()> {
+    for k in [0, 1, 2, 3, 4, 5, 6, 0xFFFF_FFFF] {
+        let read = format_args!("read {k:08x}");
+        bench.call(read, s, |s, mem| model::mac_read(s, mem, k))?;
+        let write = format_args!("write {k:08x}");
+        bench.call(write, s, |s, mem| model::mac_write(s, mem, k, 0))?;
     }
+    Ok(())
+}
+
+// A value is written to a register.
+fn value(
+    bench: &Bench<impl Print>,
+    name: impl fmt::Display + Drop,
+    s: State,
+    register: u32,
+    v: u32,
+) -> io::Result<()> {
+    let label = format_args!("{name} {v:08x}");
+    bench.call(label, s, |s, mem| model::mac_write(s, mem, register, v))?;
     Ok(())
 }
 
@@ -49,96 +35,68 @@ pub fn maccr_of(k: u32) -> u32 {
     first | k / 4 % 2 << 17 | k / 2 % 2 << 15 | k % 2 << 13
 }
 
-// MAC_CR with setting k.
-fn maccr_setting(rt: &impl Print, s: State, k: u32, mem: &[u32]) -> io::Result<()> {
-    print!(rt; "setting {k} ")?;
-    maccr(rt, s, maccr_of(k), mem)
-}
-
-// Each of the 32 settings.
-fn maccr_settings(rt: &impl Print, s: State, mem: &[u32]) -> io::Result<()> {
+// Each bit of MAC_CR alone, and each of the 32 settings.
+fn maccrs(bench: &Bench<impl Print>) -> io::Result<()> {
+    let off = bench.base(5, 0);
+    for i in 0..32u32 {
+        value(bench, "maccr", off, 1, 1 << i)?;
+    }
     for k in 0..32u32 {
-        maccr_setting(rt, s, k, mem)?;
+        value(bench, format_args!("setting {k}"), off, 1, maccr_of(k))?;
     }
     Ok(())
 }
 
-pub fn registers(rt: &impl Print, mem: &mut Memory) -> io::Result<()> {
-    trials::begin(rt, "registers", mem)?;
-    let s = trials::base(5, trials::PASSBAD, mem);
-    register(rt, s, 0, mem)?;
-    register(rt, s, 1, mem)?;
-    register(rt, s, 2, mem)?;
-    register(rt, s, 3, mem)?;
-    register(rt, s, 4, mem)?;
-    register(rt, s, 5, mem)?;
-    register(rt, s, 6, mem)?;
-    register(rt, s, 0xFFFF_FFFF, mem)?;
-    addrh(rt, s, 0xFFFF, mem)?;
-    addrh(rt, s, 0x1_0000, mem)?;
-    addrh(rt, s, 0xFFFF_FFFF, mem)?;
-    let off = trials::base(5, 0, mem);
-    maccr_bits(rt, off, mem)?;
-    maccr_settings(rt, off, mem)
+pub fn registers(bench: &mut Bench<impl Print>) -> io::Result<()> {
+    bench.begin("registers")?;
+    let s = bench.base(5, trials::PASSBAD);
+    numbers(bench, s)?;
+    for v in [0xFFFF, 0x1_0000, 0xFFFF_FFFF] {
+        value(bench, "addrh", s, 2, v)?;
+    }
+    maccrs(bench)
 }
 
-// n is set.
-fn split(rt: &impl Print, s: State, n: u32, mem: &[u32]) -> io::Result<()> {
-    print!(rt; "set_split {n:08x}")?;
-    trials::called(rt, model::set_split(s, mem, n), mem)?;
+// n is set, with this MAC_CR.
+fn splits(bench: &Bench<impl Print>, maccr: u32, ns: &[u32]) -> io::Result<()> {
+    let s = bench.base(5, maccr);
+    for n in ns {
+        let n = *n;
+        let label = format_args!("set_split {n:08x}");
+        bench.call(label, s, |s, mem| model::set_split(s, mem, n))?;
+    }
     Ok(())
 }
 
-fn splits(rt: &impl Print, mem: &[u32]) -> io::Result<()> {
-    let off = trials::base(5, 0, mem);
-    split(rt, off, 0, mem)?;
-    split(rt, off, 1, mem)?;
-    split(rt, off, 2, mem)?;
-    split(rt, off, 14, mem)?;
-    split(rt, off, 15, mem)?;
-    split(rt, off, 0xFFFF_FFFF, mem)?;
-    split(rt, trials::base(5, trials::RXEN, mem), 6, mem)?;
-    split(rt, trials::base(5, trials::TXEN, mem), 6, mem)
-}
-
 // The three dumps, with this MAC_CR.
-fn dumps(rt: &impl Print, maccr: u32, mem: &[u32]) -> io::Result<()> {
-    let s = trials::base(5, maccr, mem);
-    text(rt, "dump_rx")?;
-    trials::called(rt, model::dump_rx(s, mem), mem)?;
-    text(rt, "dump_tx_data")?;
-    trials::called(rt, model::dump_tx_data(s, mem), mem)?;
-    text(rt, "dump_tx_status")?;
-    trials::called(rt, model::dump_tx_status(s, mem), mem)?;
+fn dumps(bench: &Bench<impl Print>, maccr: u32) -> io::Result<()> {
+    let s = bench.base(5, maccr);
+    bench.call("dump_rx", s, model::dump_rx)?;
+    bench.call("dump_tx_data", s, model::dump_tx_data)?;
+    bench.call("dump_tx_status", s, model::dump_tx_status)?;
     Ok(())
 }
 
 // n is set while a frame waits, while its words do, and when both FIFOs are empty again.
-fn waiting(rt: &impl Print, mem: &mut Memory, space: &mut Space) -> io::Result<()> {
-    let s = trials::base(5, trials::RXEN, mem);
-    text(rt, "waiting")?;
-    let held = trials::arrives_new(rt, s, mem, space, 64, trials::TYPE, 1, 0)?;
-    text(rt, "maccr")?;
-    let off = trials::called(rt, model::mac_write(held, mem, 1, 0), mem)?;
-    text(rt, "set_split")?;
-    let refused = trials::called(rt, model::set_split(off, mem, 6), mem)?;
-    text(rt, "status")?;
-    let popped = trials::called(rt, model::rx_status_pop(refused, mem), mem)?;
-    text(rt, "set_split")?;
-    let again = trials::called(rt, model::set_split(popped, mem, 6), mem)?;
-    text(rt, "dump_rx")?;
-    let empty = trials::called(rt, model::dump_rx(again, mem), mem)?;
-    text(rt, "set_split")?;
-    let resized = trials::called(rt, model::set_split(empty, mem, 6), mem)?;
-    text(rt, "split")?;
-    trials::called(rt, model::split(resized, mem), mem)?;
+fn waiting(bench: &mut Bench<impl Print>) -> io::Result<()> {
+    let s = bench.base(5, trials::RXEN);
+    let held = bench.arrives("waiting", s, Frame::short(To::Ours), 0)?;
+    let off = bench.call("maccr", held, |s, mem| model::mac_write(s, mem, 1, 0))?;
+    let refused = bench.call("set_split", off, |s, mem| model::set_split(s, mem, 6))?;
+    let popped = bench.call("status", refused, model::rx_status_pop)?;
+    let again = bench.call("set_split", popped, |s, mem| model::set_split(s, mem, 6))?;
+    let empty = bench.call("dump_rx", again, model::dump_rx)?;
+    let resized = bench.call("set_split", empty, |s, mem| model::set_split(s, mem, 6))?;
+    bench.call("split", resized, model::split)?;
     Ok(())
 }
 
-pub fn restarts(rt: &impl Print, mem: &mut Memory, space: &mut Space) -> io::Result<()> {
-    trials::begin(rt, "restarts", mem)?;
-    splits(rt, mem)?;
-    dumps(rt, trials::RXEN, mem)?;
-    dumps(rt, trials::TXEN, mem)?;
-    waiting(rt, mem, space)
+pub fn restarts(bench: &mut Bench<impl Print>) -> io::Result<()> {
+    bench.begin("restarts")?;
+    splits(bench, 0, &[0, 1, 2, 14, 15, 0xFFFF_FFFF])?;
+    splits(bench, trials::RXEN, &[6])?;
+    splits(bench, trials::TXEN, &[6])?;
+    dumps(bench, trials::RXEN)?;
+    dumps(bench, trials::TXEN)?;
+    waiting(bench)
 }

@@ -1,12 +1,9 @@
 // The states and the memory that trials begin with, and the lines of a trial (docs/REHEARSAL.md, How things are written).
-use crate::frames::{Space, To};
-use crate::lines::text;
-use crate::{digests, frames, lines};
-use paper::{Arrived, Reply, State};
-use std::io;
-
-// The lent memory.
-pub type Memory = [u32; 4096];
+use crate::digests::Digest;
+use crate::frames::Frame;
+use crate::lines::{ByName, InNumbers};
+use paper::{Arrival, Control, Registers, Reply, State};
+use std::{fmt, io};
 
 // MAC_CR with RXEN; with RXEN and PASSBAD; with TXEN.
 pub const RXEN: u32 = 0x0000_0004;
@@ -15,119 +12,171 @@ pub const PASSBAD: u32 = 0x0001_0004;
 
 pub const TXEN: u32 = 0x0000_0008;
 
-// A length or type that is a type.
-pub const TYPE: u32 = 0x0800;
-
-// Bit i alone; none from 32 on.
-pub fn bit(i: u32) -> u32 {
-    if i < 32 { 1 << i } else { 0 }
+// What the trials work on: where their lines are printed, and the lent memory.
+#[derive(Drop)]
+pub struct Bench<'a, P> {
+    pub rt: &'a P,
+    pub mem: &'a mut [u32],
 }
 
 // Filled memory: word i is (i + 1) times 9E3779B9h.
-pub fn fill(mem: &mut [u32]) {
-    let mut w: u32 = 0;
-    for i in 0..mem.len() {
-        w = std::num::wrapping_add_u32(w, 0x9E37_79B9);
-        mem[i] = w;
+fn fill(mem: &mut [u32]) {
+    let mut filled: u32 = 0;
+    for w in mem {
+        filled = filled.wrapping_add(0x9E37_79B9);
+        *w = filled;
     }
 }
 
-// The line that begins a part, and filled memory.
-pub fn begin(rt: &impl Print, name: &str, mem: &mut Memory) -> io::Result<()> {
-    lines::part(rt, name)?;
-    fill(mem);
-    Ok(())
+// The writes of B(n, MAC_CR) after set_split: each register's name, number and value.
+pub fn writes(maccr: u32) -> [(&'static str, u32, u32); 3] {
+    [
+        ("addrh", 2, 0x0000_5544),
+        ("addrl", 3, 0x3322_1102),
+        ("maccr", 1, maccr),
+    ]
 }
 
 // B(n, MAC_CR).
 pub fn base(n: u32, maccr: u32, mem: &[u32]) -> State {
-    let split = model::set_split(State::fresh(), mem, n);
-    let high = model::mac_write(split.state, mem, 2, 0x0000_5544);
-    let low = model::mac_write(high.state, mem, 3, 0x3322_1102);
-    let done = model::mac_write(low.state, mem, 1, maccr);
-    done.state
+    let mut s = model::set_split(State::fresh(), mem, n).state;
+    for (_, register, value) in writes(maccr) {
+        s = model::mac_write(s, mem, register, value).state;
+    }
+    s
 }
 
-// A state with another n, which no call made.
+// A state with other registers, which no call may have made.
+pub fn with_registers(s: State, registers: Registers) -> State {
+    State {
+        control: Control {
+            registers,
+            ..s.control
+        },
+        ..s
+    }
+}
+
+// A state with another n.
 pub fn with_n(s: State, n: u32) -> State {
-    let mut after = s;
-    let mut control = s.control;
-    let mut registers = control.registers;
-    registers.n = n;
-    control.registers = registers;
-    after.control = control;
-    after
+    with_registers(
+        s,
+        Registers {
+            n,
+            ..s.control.registers
+        },
+    )
 }
 
-// The digests of state and memory, and the line's end.
-pub fn digests(rt: &impl Print, s: State, mem: &[u32]) -> io::Result<()> {
-    let state = digests::of_state(s);
-    let memory = digests::of_memory(mem);
-    println!(rt; " state {state:08x} memory {memory:08x}")
+// A frame arrives, with these flags.
+pub fn arrive(s: State, mem: &mut [u32], frame: Frame, flags: u32) -> Reply<Arrival> {
+    let mut space = [0; 2049];
+    model::arrive(s, mem, frame.make(&mut space), flags)
 }
 
-// The rest of a call line, after its label. Answers the state after the call.
-pub fn called(rt: &impl Print, r: Reply, mem: &[u32]) -> io::Result<State> {
-    let after = r.state;
-    let answer = r.answer;
-    text(rt, ": ")?;
-    lines::said(rt, answer)?;
-    digests(rt, after, mem)?;
-    Ok(after)
+// The digests of state and memory.
+#[derive(Clone, Copy)]
+pub struct Digests {
+    state: Digest,
+    memory: Digest,
 }
 
-// What a call answered, under its name.
-pub fn asked(rt: &impl Print, name: &str, r: Reply) -> io::Result<()> {
-    let answer = r.answer;
-    text(rt, name)?;
-    lines::said(rt, answer)
+impl Digests {
+    pub fn of(state: State, mem: &[u32]) -> Self {
+        Self {
+            state: Digest::of_state(state),
+            memory: Digest::EMPTY.with_all(mem),
+        }
+    }
+}
+
+impl fmt::Display for Digests {
+    fn fmt<W: fmt::Write>(&self, f: &mut fmt::Formatter<W>) -> fmt::Result {
+        let Self { state, memory } = self;
+        write!(f, "state {state} memory {memory}")
+    }
 }
 
 // What rx_fifo_inf and rx_drop answer, asked of copies.
-pub fn levels(rt: &impl Print, s: State, mem: &[u32]) -> io::Result<()> {
-    let level = model::rx_fifo_inf(s, mem);
-    let drops = model::rx_drop(s, mem);
-    asked(rt, " inf ", level)?;
-    asked(rt, " drop ", drops)
+#[derive(Clone, Copy)]
+pub struct Levels {
+    inf: InNumbers,
+    drops: InNumbers,
 }
 
-// The frame of this length at the front of the space arrives.
-pub fn arrive(s: State, mem: &mut [u32], space: &[u8], length: usize, flags: u32) -> Arrived {
-    let end = frames::fitting(length, space);
-    model::arrive(s, mem, &space[..end], flags)
+impl Levels {
+    pub fn of(s: State, mem: &[u32]) -> Self {
+        Self {
+            inf: InNumbers(model::rx_fifo_inf(s, mem).answer),
+            drops: InNumbers(model::rx_drop(s, mem).answer),
+        }
+    }
 }
 
-// The rest of an arrival line, after its label. Answers the state after the arrival.
-pub fn arrives(
-    rt: &impl Print,
-    s: State,
-    mem: &mut Memory,
-    space: &Space,
-    length: usize,
-    flags: u32,
-) -> io::Result<State> {
-    let a = arrive(s, mem, space, length, flags);
-    let after = a.state;
-    let answer = a.answer;
-    text(rt, ": ")?;
-    lines::arrival(rt, answer)?;
-    levels(rt, after, mem)?;
-    asked(rt, " peek ", model::rx_status_peek(after, mem))?;
-    digests(rt, after, mem)?;
-    Ok(after)
+impl fmt::Display for Levels {
+    fn fmt<W: fmt::Write>(&self, f: &mut fmt::Formatter<W>) -> fmt::Result {
+        let Self { inf, drops } = self;
+        write!(f, "inf {inf} drop {drops}")
+    }
 }
 
-// The same for frame(length, v, k, ours), made in the space given.
-pub fn arrives_new(
-    rt: &impl Print,
-    s: State,
-    mem: &mut Memory,
-    space: &mut Space,
-    length: usize,
-    v: u32,
-    k: usize,
-    flags: u32,
-) -> io::Result<State> {
-    frames::make(space, length, v, k, To::Ours);
-    arrives(rt, s, mem, space, length, flags)
+impl<P: Print> Bench<'_, P> {
+    // The line that begins a part, and filled memory.
+    pub fn begin(&mut self, name: impl fmt::Display + Drop) -> io::Result<()> {
+        println!(self.rt; "== {name}")?;
+        fill(self.mem);
+        Ok(())
+    }
+
+    // B(n, MAC_CR).
+    pub fn base(&self, n: u32, maccr: u32) -> State {
+        base(n, maccr, self.mem)
+    }
+
+    // A call line. Answers the state after the call.
+    pub fn called(&self, label: impl fmt::Display + Drop, r: Reply<u32>) -> io::Result<State> {
+        let said = InNumbers(r.answer);
+        let digests = Digests::of(r.state, self.mem);
+        println!(self.rt; "{label}: {said} {digests}")?;
+        Ok(r.state)
+    }
+
+    // A call that writes no memory, and its call line. Answers the state after the call.
+    pub fn call<F: FnOnce(State, &[u32]) -> Reply<u32>>(
+        &self,
+        label: impl fmt::Display + Drop,
+        s: State,
+        call: F,
+    ) -> io::Result<State>
+        requires { F.IsAlwaysCallable call }
+    {
+        self.called(label, call(s, self.mem))
+    }
+
+    // An arrival line. Answers the state after the arrival.
+    pub fn arrived(&self, label: impl fmt::Display + Drop, a: Reply<Arrival>) -> io::Result<State> {
+        let answer = ByName(a.answer);
+        let levels = Levels::of(a.state, self.mem);
+        let peek = InNumbers(model::rx_status_peek(a.state, self.mem).answer);
+        let digests = Digests::of(a.state, self.mem);
+        println!(self.rt; "{label}: {answer} {levels} peek {peek} {digests}")?;
+        Ok(a.state)
+    }
+
+    // A frame arrives, with these flags.
+    pub fn arrive(&mut self, s: State, frame: Frame, flags: u32) -> Reply<Arrival> {
+        arrive(s, self.mem, frame, flags)
+    }
+
+    // The same, and its arrival line.
+    pub fn arrives(
+        &mut self,
+        label: impl fmt::Display + Drop,
+        s: State,
+        frame: Frame,
+        flags: u32,
+    ) -> io::Result<State> {
+        let a = self.arrive(s, frame, flags);
+        self.arrived(label, a)
+    }
 }
