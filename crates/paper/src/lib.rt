@@ -31,9 +31,6 @@ pub enum Fifo {
     RxStatus,
 }
 
-// The lent memory, 16 KB.
-pub type Memory = [u32; 4096];
-
 // A FIFO in the lent memory: the place of its oldest word, and how many words wait.
 #[derive(Clone, Copy)]
 pub struct Ring {
