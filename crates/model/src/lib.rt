@@ -1,6 +1,7 @@
 // The public calls. Each takes the state by value and the lent memory, and answers the state after it with its answer (01, Refusal numbers).
 // No call relies on its caller: each refuses 14, where the lent memory is not 4,096 words, then 15, where a number of the state is out of its range, and changes nothing; then come
 // the refusals that its comment lists, in that order. Each contract is one equation with `step` of the definitions.
+// The calls look alike, and each stays: a driver calls it by its name, and its contract names its call. The state goes in by value beside the lent memory, as the C interface will have them.
 #![tactic(auto, using(entry::proofs::Shut::told_entered, entry::proofs::Shut::told_shut))]
 
 ghost use Rattle.std.specs.Prelude.{◌≡◌};

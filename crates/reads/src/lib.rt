@@ -1,6 +1,7 @@
 // The host's reads of RX data and of the RX and TX statuses, for a state that passed the entry test (paper 01, Memory, and refusal 11). The memory is only
 // read. Each answers the oldest word of its FIFO, or refusal 11 where none waits; a pop, and a read of RX data, takes that word, a peek leaves it.
-// The lent memory is a slice, as 01 names it ("one lent &mut slice of u32, read and written as rings"), so each call asks for its length.
+// The lent memory is a slice, as 01 names it ("one lent &mut slice of u32, read and written as rings"), so each call asks for its length. The five stay apart over
+// pop and peek, since each has its own call of 01 in its contract; a struct of state and memory would be made for one call and no plainer.
 #![tactic(auto)]
 
 ghost use Rattle.std.specs.Prelude.{◌≡◌, length};

@@ -20,6 +20,7 @@ fn is_clear(i: u32, v: u32) -> bool
     !words::fields::bit_is_set(i, v)
 }
 
+// The two dumps have a test each over is_clear, for each renders a sentence of 01.
 // 01: "Dumping TX data needs TXEN clear"
 pub fn may_dump_tx_data(r: Registers) -> bool
     ensures { result ≡ may_dump_tx_data r }

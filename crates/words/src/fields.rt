@@ -27,7 +27,7 @@ ghost use Rattle.paper.specs.Transmission.{
 };
 ghost use Rattle.words.specs.Masks.{bits_below};
 
-// Bit i of v, as 0 or 1.
+// Bit i of v, as 0 or 1. That i is below 32 is asked where a bit is named: a type for its number would be built from a constant at every call.
 fn digit(i: u32, v: u32) -> u32
     requires { i < 32 }
     ensures { result ≡ digit i v }
