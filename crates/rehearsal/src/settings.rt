@@ -6,7 +6,7 @@ use paper::State;
 use std::{fmt, io};
 
 // Each register is read, and 0 is written to it.
-fn numbers(bench: &Bench<impl Print>, s: State) -> io::Result<()> {
+fn register_numbers(bench: &Bench<impl Print>, s: State) -> io::Result<()> {
     for k in [0, 1, 2, 3, 4, 5, 6, 0xFFFF_FFFF] {
         let read = format_args!("read {k:08x}");
         bench.call(read, s, |s, mem| model::mac_read(s, mem, k))?;
@@ -17,7 +17,7 @@ fn numbers(bench: &Bench<impl Print>, s: State) -> io::Result<()> {
 }
 
 // A value is written to a register.
-fn value(
+fn written(
     bench: &Bench<impl Print>,
     name: impl fmt::Display + Drop,
     s: State,
@@ -39,10 +39,10 @@ pub fn maccr_of(k: u32) -> u32 {
 fn maccrs(bench: &Bench<impl Print>) -> io::Result<()> {
     let off = bench.base(5, 0);
     for i in 0..32u32 {
-        value(bench, "maccr", off, 1, 1 << i)?;
+        written(bench, "maccr", off, 1, 1 << i)?;
     }
     for k in 0..32u32 {
-        value(bench, format_args!("setting {k}"), off, 1, maccr_of(k))?;
+        written(bench, format_args!("setting {k}"), off, 1, maccr_of(k))?;
     }
     Ok(())
 }
@@ -50,9 +50,9 @@ fn maccrs(bench: &Bench<impl Print>) -> io::Result<()> {
 pub fn registers(bench: &mut Bench<impl Print>) -> io::Result<()> {
     bench.begin("registers")?;
     let s = bench.base(5, trials::PASSBAD);
-    numbers(bench, s)?;
+    register_numbers(bench, s)?;
     for v in [0xFFFF, 0x1_0000, 0xFFFF_FFFF] {
-        value(bench, "addrh", s, 2, v)?;
+        written(bench, "addrh", s, 2, v)?;
     }
     maccrs(bench)
 }
