@@ -96,7 +96,7 @@ pub struct Rules {
 // A setting of the five mode bits: its rules; none where it is undefined.
 pub type Setting = Option<Rules>;
 
-// What the room test answers.
+// What the room test answers. No bool: a reader of a call sees which is which.
 #[derive(Clone, Copy)]
 pub enum Room {
     Fits,
@@ -165,7 +165,7 @@ impl<T> Reply<T> {
     }
 }
 
-// An answer in numbers: the refusal's number, 0 for none, and the value.
+// An answer in numbers, as 01 gives it: the refusal's number, 0 for none, and the value.
 #[derive(Clone, Copy)]
 pub struct Said {
     pub refusal: u32,

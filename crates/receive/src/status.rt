@@ -75,6 +75,7 @@ pub fn status_of(r: Registers, w: Wire) -> u32
     requires { Sized (length w.frame.now) }
     ensures { result ≡ status longest (not (passes r (seen w.entry).head)) (seen w.entry) }
 {
+    // by `as`: a usize has no From to u32, and try_from would have a case that cannot be
     let len = w.frame.len() as u32;
     let head = w.frame.first_chunk::<14>().unwrap();
     let v = length_or_type(&w.frame[12..]);

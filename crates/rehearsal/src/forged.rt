@@ -46,7 +46,7 @@ fn any_word(bench: &Bench<impl Print>, s: State) -> io::Result<()> {
     Ok(())
 }
 
-// The name of a FIFO.
+// The name of a FIFO on the page. No Display: that would be in `paper`, where the FIFO is, and the name is this page's.
 fn name(fifo: Fifo) -> &'static str {
     match fifo {
         Fifo::TxData => "txdata",

@@ -70,6 +70,7 @@ impl Frame {
     // Its bytes, but for the FCS.
     fn fill(self, frame: &mut [u8]) {
         for (i, b) in frame.iter_mut().enumerate() {
+            // by `as`, as the page defines a byte: its number modulo 256
             *b = (self.take.wrapping_mul(7).wrapping_add(i) % 256) as u8;
         }
         for (b, h) in frame.iter_mut().zip(self.header()) {

@@ -23,6 +23,7 @@ fn length_of(b: u32) -> u16 {
         2 => 64 + more % 512,
         _ => 1490 + more % 64,
     };
+    // by `as`: no length above is more than 1,553
     length as u16
 }
 

@@ -78,6 +78,7 @@ impl Part {
         ensures { Changed self.base self.size (puts (data_words frame.now)) r result mem.old mem.new }
     {
         let mut q = r;
+        // by the word's number, as the definition reads a frame; over chunks the last word would be filled up by hand
         for k in 0..frame.len().div_ceil(4) {
             q = self.put(mem, q, words::bytes::word_at(frame, 4 * k));
         }
