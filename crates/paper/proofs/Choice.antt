@@ -57,4 +57,4 @@ or_neither false b e = (refl, e)
 
 -- A mark is at most its bit.
 pub mark_bound : (i : ℕ) (b : Bool) → mark i b ≤ 2 ^ i
-mark_bound i b = if_cases (λ x. x ≤ 2 ^ i) b (λ h. omega arith) (λ h. omega arith)
+mark_bound i b = grind arith

@@ -27,6 +27,7 @@ use Rattle.paper.specs.Transmission.{alignment, alignment_field, offset, buffer_
 use Rattle.paper.specs.Sending.{Buffer, Head, NoPacket, Found, behind, from_a, from_b, buffers_from, head_of, buffer_bytes, sent_bytes, freed, frame_of, good_outcome, tx_status}
 use Rattle.paper.proofs.Words.{series-length, series-get_or, bytes_of-length}
 use Rattle.paper.proofs.Choice.{if_cases, and_left, and_right, and_three, or_neither, mark_bound}
+use Rattle.std.proofs.lemmas.Bool.Decides.{nat_tests}
 
 -- A frame has as many data words as its bytes take.
 pub data_words-length : (frame : List ℕ) → length (data_words frame) ≡ words_for (length frame)
@@ -61,10 +62,7 @@ module _ (is_open : Bool) (a : ℕ) (good : good_a is_open a ≡ true) where
   -- The buffer of a good A has at least one byte.
   pub buffer_size_pos : 1 ≤ buffer_size a
   unfolding good_a
-  buffer_size_pos =
-      let parts = and_three (not (eqb (alignment_field a) 3)) (not (eqb (buffer_size a) 0)) _ good in
-      let some : buffer_size a ≡ 0 → ⊥ = eqb-false _ _ (not-true _ parts.1) in
-      omega arith
+  buffer_size_pos = grind (arith, nat_tests)
 
   -- A good A has at least one word stored.
   pub stored_words_pos : 1 ≤ stored_words a
@@ -74,21 +72,15 @@ module _ (is_open : Bool) (a : ℕ) (good : good_a is_open a ≡ true) where
 pub stored_words_bound : (a : ℕ) → stored_words a ≤ 513
 stored_words_bound a = omega arith
 
--- What holds for ends aligned to 4, 16 and 32 bytes holds for an A's.
-alignment_cases : (P : ℕ → Type 0) (a : ℕ) → P 4 → P 16 → P 32 → P (alignment a)
-alignment_cases P a four sixteen thirtytwo =
-    if_cases P (eqb (alignment_field a) 0) (λ _. four) (λ _. if_cases P (eqb (alignment_field a) 1) (λ _. sixteen) (λ _. thirtytwo))
-
 -- The words thrown away in front and those stored are among those that the host writes.
 pub stored_within : (a : ℕ) → front_words a + stored_words a ≤ host_words a
 unfolding host_words
-stored_within a =
-    alignment_cases (λ step. front_words a + stored_words a ≤ rounded_up (offset a + buffer_size a) step / 4) a (omega arith) (omega arith) (omega arith)
+stored_within a = grind (arith, nat_tests)
 
 -- The host writes at most 520 words for a buffer.
 pub host_words_bound : (a : ℕ) → host_words a ≤ 520
 unfolding host_words
-host_words_bound a = alignment_cases (λ step. rounded_up (offset a + buffer_size a) step / 4 ≤ 520) a (omega arith) (omega arith) (omega arith)
+host_words_bound a = grind (arith, nat_tests)
 
 -- The host writes at least one word for a good A.
 pub host_words_pos : (is_open : Bool) (a : ℕ) → good_a is_open a ≡ true → 1 ≤ host_words a
@@ -109,10 +101,7 @@ all_bits (i ∷ is) = 2 ^ i + all_bits is
 
 -- One bit of a word, at its place, is at most that place's value.
 digit_bound : (i v : ℕ) → digit i v * 2 ^ i ≤ 2 ^ i
-digit_bound i v =
-    let d : digit i v ≤ 1 = omega arith in
-    let h : digit i v * 2 ^ i ≤ 1 * 2 ^ i = mul-le-mul_right (2 ^ i) d in
-    omega arith
+digit_bound i v = grind arith
 
 -- Gathered bits are at most all of them set.
 gathered_bound : (is : List ℕ) (v : ℕ) → gathered is v ≤ all_bits is
@@ -134,33 +123,17 @@ outcome_bound o e = only_bits_bound (11 ∷ 10 ∷ 9 ∷ 8 ∷ 6 ∷ 5 ∷ 4 ∷
 
 -- A good MAC_CR is a word.
 pub maccr_bound : (v : ℕ) → good_maccr v ≡ true → v < 2 ^ 32
-maccr_bound v e = omega (arith, only_bits_bound carried v (and_left (only_bits carried v) (is_defined (setting_of v)) e))
+maccr_bound v e = grind (arith, only_bits_bound carried v)
 
 -- An RX status is below 2^31.
 pub status_bound : (limit : ℕ) (miss : Bool) (l : Look) → l.len ≤ 2048 → status limit miss l < 2 ^ 31
 unfolding status
-status_bound limit miss l h =
-    omega (
-      arith,
-      mark_bound 30 miss,
-      mark_bound 15 (is_error limit l),
-      mark_bound 13 (is_broadcast l.head),
-      mark_bound 12 (wrong_length (length_or_type l.head) l.len),
-      mark_bound 11 (is_runt l),
-      mark_bound 10 (is_group l.head && not (is_broadcast l.head)),
-      mark_bound 7 (is_long limit l),
-      mark_bound 6 (collision l),
-      mark_bound 5 (ltb 1500 (length_or_type l.head)),
-      mark_bound 3 (bit 3 l.flags),
-      mark_bound 2 (bit 2 l.flags),
-      mark_bound 1 (not l.fits),
-    )
+status_bound limit miss l h = omega (arith, mark_bound)
 
 -- A TX status is a word.
 pub tx_status_bound : (b o : ℕ) → good_outcome o ≡ true → tx_status b o < 2 ^ 32
 unfolding tx_status
-tx_status_bound b o e =
-    omega (arith, outcome_bound o e, mark_bound 15 (bit 11 o || bit 10 o || bit 9 o || bit 8 o || bit 2 o))
+tx_status_bound b o e = omega (arith, outcome_bound, mark_bound)
 
 -- RX_FIFO_INF is below 2^24.
 pub rx_inf_bound : (statuses words : ℕ) → statuses ≤ 224 → words ≤ 3360 → rx_fifo_inf statuses words < 2 ^ 24
@@ -188,35 +161,17 @@ sent_length b = if ltb (packet_length b) 60 && not (no_padding b) then 64 else i
 
 -- The FCS adds four bytes.
 with_fcs-length : (s : List ℕ) → length (with_fcs s) ≡ length s + 4
-with_fcs-length s = length-append s _ ∙ ap (λ n. length s + n) (bytes_of-length (fcs s ∷ []))
+with_fcs-length s = simp (length-append, bytes_of-length)
 
 -- The frame sent has its length by the first B, where the packet has its own.
 pub frame_length : (b : ℕ) (bytes : List ℕ) → length bytes ≡ packet_length b → length (frame_of b bytes) ≡ sent_length b
 unfolding frame_of
-frame_length b bytes h = by_cases (ltb (packet_length b) 60 && not (no_padding b)) refl (no_crc b)
-  where
-    by_cases : (short : Bool) → (ltb (packet_length b) 60 && not (no_padding b)) ≡ short → (bare : Bool)
-        → length (if short then with_fcs (bytes ++ replicate (60 - packet_length b) 0) else if bare then bytes else with_fcs bytes)
-        ≡ (if short then 64 else if bare then packet_length b else packet_length b + 4)
-    by_cases true e bare =
-        let below : packet_length b < 60 = ltb-true _ _ (and_left _ (not (no_padding b)) e) in
-        let padded : length (bytes ++ replicate (60 - packet_length b) 0) ≡ 60 = simp (length-append, length-replicate) (omega arith) in
-        omega (arith, with_fcs-length (bytes ++ replicate (60 - packet_length b) 0))
-    by_cases false e true = h
-    by_cases false e false = omega (arith, with_fcs-length bytes)
+frame_length b bytes h = grind (arith, nat_tests, length-append, length-replicate, with_fcs-length)
 
 -- The frame of a good first B has at most 1,518 bytes.
 pub frame_fits : (b : ℕ) (bytes : List ℕ) → good_length b ≡ true → length bytes ≡ packet_length b → length (frame_of b bytes) ≤ 1518
 unfolding good_length
-frame_fits b bytes good h =
-    let most = leb-true _ _ (and_right (leb 1 (packet_length b)) _ good) in
-    rw (frame_length b bytes h) (by_cases (ltb (packet_length b) 60 && not (no_padding b)) (no_crc b) most)
-  where
-    by_cases : (short bare : Bool) → packet_length b ≤ (if bare then 1518 else 1514)
-        → (if short then 64 else if bare then packet_length b else packet_length b + 4) ≤ 1518
-    by_cases true bare p = omega arith
-    by_cases false true p = omega arith
-    by_cases false false p = omega arith
+frame_fits b bytes good h = rw (frame_length b bytes h) (grind (arith, nat_tests))
 
 -- A buffer whose payload is stored whole has as many bytes as its A says.
 pub buffer_bytes-length : (x : Buffer) → length x.payload ≡ stored_words x.a → length (buffer_bytes x) ≡ buffer_size x.a

@@ -11,7 +11,7 @@ use mathlib.Core.Logic.{◌≢◌}
 use mathlib.Core.Bool.{Bool, true, false}
 use mathlib.Core.List.{List, [], ◌∷◌, ◌++◌}
 use Prim.Native.Nat.{ℕ, zero, suc, ◌+◌, ◌-◌, ◌%◌, ◌≤◌, ◌<◌}
-use native.Mathlib.Nat.{add-zero, not-suc-le-zero, mod-lt, mod-eq_of_lt, mod-eq-sub-mod, mod-add-mod}
+use native.Mathlib.Nat.{add-zero, suc-add, add-suc, not-suc-le-zero, mod-lt, mod-eq_of_lt, mod-eq-sub-mod, mod-add-mod}
 use native.Mathlib.Omega.{arith}
 use lib.Dec.{ltb}
 use lib.ListN.{length, get_or, set, drop, length-set}
@@ -23,7 +23,7 @@ use Rattle.paper.specs.declared.Fifo.{Fifo}
 use Rattle.paper.specs.declared.Fifo.TheVariants.{TxData, TxStatus, RxData, RxStatus}
 use Rattle.paper.specs.Memory.{words_lent, size, base, place, waiting, put_all}
 use Rattle.paper.specs.Memory.{Change, keeps, puts, takes, restarts, ring_after, memory_after, waiting_after}
-use Rattle.paper.proofs.Words.{suc_across, series-length, series-append, series-drop, series_agree, series_lists}
+use Rattle.paper.proofs.Words.{series-length, series-append, series-drop, series_agree, series_lists}
 
 -- ---- the four parts of the memory
 
@@ -145,8 +145,8 @@ put_all-length b s k (w ∷ ws) m = put_all-length b s (suc k) ws (set m (place 
 -- two puts, one behind the other
 pub put_all-append : (b s k : ℕ) (ws vs m : List ℕ) → put_all b s k (ws ++ vs) m ≡ put_all b s (k + length ws) vs (put_all b s k ws m)
 unfolding put_all
-put_all-append b s k [] vs m = rw add-zero
-put_all-append b s k (w ∷ ws) vs m = rw suc_across (put_all-append b s (suc k) ws vs (set m (place b s k) w))
+put_all-append b s k [] vs m = grind arith
+put_all-append b s k (w ∷ ws) vs m = grind (arith, put_all-append b s (suc k) ws vs (set m (place b s k) w))
 
 -- a put of one more word
 pub put_all-snoc : (b s k : ℕ) (ws : List ℕ) (w : ℕ) (m : List ℕ) → put_all b s k (ws ++ w ∷ []) m ≡ set (put_all b s k ws m) (place b s (k + length ws)) w
@@ -159,20 +159,19 @@ pub put_all_other : (b s k : ℕ) (ws m : List ℕ) (p : ℕ) → ((i : ℕ) →
 unfolding put_all
 put_all_other b s k [] m p h = refl
 put_all_other b s k (w ∷ ws) m p h =
-    put_all_other b s (suc k) ws (set m (place b s k) w) p (λ i l. rw (← suc_across k i) (h (suc i) (omega arith)))
+    put_all_other b s (suc k) ws (set m (place b s k) w) p (λ i l. simp suc-add (simp add-suc at (h (suc i) (omega arith))))
     ∙ get_or-set_other m (place b s k) p w 0 (rw add-zero at (h 0 (omega arith)))
 
 -- a put of no more words than the ring has writes word i at place k + i
 pub put_all_reads : (b s k : ℕ) (ws m : List ℕ) (i : ℕ) → i < length ws → length ws ≤ s → b + s ≤ length m
     → get_or (put_all b s k ws m) (place b s (k + i)) 0 ≡ get_or ws i 0
 unfolding put_all
-put_all_reads b s k [] m i h l fit = absurd (not-suc-le-zero h)
+put_all_reads b s k [] m i h l fit = grind arith
 put_all_reads b s k (w ∷ ws) m zero h l fit =
     rw add-zero
     (put_all_other b s (suc k) ws (set m (place b s k) w) (place b s k) (λ i t. places_differ b s k (suc k + i) (omega arith) (omega arith))
     ∙ get_or-set_same m (place b s k) w 0 (omega (arith, mod-lt k {m = s} (omega arith))))
-put_all_reads b s k (w ∷ ws) m (suc i) h l fit =
-    rw (suc_across k i) (put_all_reads b s (suc k) ws (set m (place b s k) w) i (omega arith) (omega arith) (rw length-set fit))
+put_all_reads b s k (w ∷ ws) m (suc i) h l fit = grind (arith, put_all_reads b s (suc k) ws (set m (place b s k) w) i, length-set)
 
 -- ---- a change of a ring
 
