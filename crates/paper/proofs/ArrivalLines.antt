@@ -16,7 +16,7 @@ use Prim.Native.Nat.{ℕ, ◌-◌, ◌≤◌, ◌<◌}
 use native.Mathlib.Omega.{arith}
 use lib.Dec.{ltb, eqb}
 use lib.ListN.{length}
-use borrow.Author.Tests.{ltb-false, eqb-false, not-false}
+use borrow.Author.Tests.{not-false}
 use Rattle.paper.specs.declared.Registers.{Registers}
 use Rattle.paper.specs.declared.Rule.{Rule}
 use Rattle.paper.specs.declared.Rule.TheVariants.{Equal, NotEqual, Hash, Pass}
@@ -32,10 +32,11 @@ use Rattle.paper.specs.Acts.{unchanged, arrives}
 use Rattle.paper.specs.Machine.{World, waits}
 use Rattle.paper.specs.Ledger.{sets_error}
 use Rattle.paper.specs.Runs.{Due}
-use Rattle.paper.proofs.Choice.{if_cases, or_neither}
+use Rattle.std.proofs.lemmas.Bool.{cond_both}
 use Rattle.paper.proofs.Counts.{data_words-length}
 use Rattle.paper.proofs.Rings.{split, Sound, AllFit}
 use Rattle.paper.proofs.Fifos.{each, waits_count}
+use Rattle.std.proofs.lemmas.Bool.Decides.{nat_tests}
 
 -- line 6 applies: too few words are free, or no status
 abbrev pub is_short : (words statuses len : ℕ) → Bool
@@ -57,37 +58,27 @@ SaysAt a k w l =
 
 -- Line 5 does not apply where the filter says yes, or RXALL is set.
 not_filtered : (p all : Bool) → (p || all) ≡ true → (not p && not all) ≡ false
-not_filtered true all e = refl
-not_filtered false true e = refl
-not_filtered false false e = cc
+not_filtered p all e = grind arith
 
 -- Where line 5 does not apply, the filter says yes, or RXALL is set.
 passed_or_all : (p all : Bool) → (not p && not all) ≡ false → (p || all) ≡ true
-passed_or_all true all e = refl
-passed_or_all false true e = refl
-passed_or_all false false e = cc
+passed_or_all p all e = grind arith
 
 module _ (r : Registers) (words statuses : ℕ) (l : Look) where
   -- A frame that is due is stored where there is room, and else dropped.
   due_says : Due r l → Says (Ok (by_room (room l.len words statuses))) r words statuses l
   unfolding room
-  due_says due = if_cases (λ x. Says (Ok (by_room x)) r words statuses l) _ (λ t. (due, t)) fits
-    where
-      fits : is_short words statuses l.len ≡ false → (words_for l.len ≤ words) × (0 < statuses)
-      fits t =
-          let both = or_neither (ltb words (words_for l.len)) (eqb statuses 0) t in
-          let some : statuses ≡ 0 → ⊥ = eqb-false _ _ both.1 in
-          (ltb-false _ _ both.0, omega arith)
+  due_says due = cond_both (is_short words statuses l.len) _ _ (λ x. Says (Ok (by_room x)) r words statuses l) (λ t. (due, t)) (λ t. grind (arith, nat_tests))
 
   -- The first line that applies answers, and says what it says.
   pub arrival_says : Says (arrival r words statuses l) r words statuses l
   unfolding arrival
   arrival_says =
-      if_cases says _ (λ _. refl) λ good.
-      if_cases says _ (λ _. refl) λ flags.
-      if_cases says _ (λ _. tt) λ receiving.
-      if_cases says _ (λ _. tt) λ whole.
-      if_cases says _ (λ _. tt) λ passed.
+      cond_both _ _ _ says (λ _. refl) λ good.
+      cond_both _ _ _ says (λ _. refl) λ flags.
+      cond_both _ _ _ says (λ _. tt) λ receiving.
+      cond_both _ _ _ says (λ _. tt) λ whole.
+      cond_both _ _ _ says (λ _. tt) λ passed.
       due_says (record {
         length_good = good;
         flags = not-false _ flags;

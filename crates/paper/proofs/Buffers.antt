@@ -13,11 +13,11 @@ use native.Mathlib.Omega.{arith}
 use lib.Dec.{leb, ltb}
 use lib.ListN.{length, drop, length-append, length-drop, drop_of_length-le}
 use lib.Seq.{take_all, take-nil, drop-nil, take-append-le, drop-append-le}
-use borrow.Author.Tests.{leb-true, ltb-true, ltb-false, leb-false}
+use borrow.Author.Tests.{leb-true, ltb-false, leb-false}
 use Rattle.paper.specs.Transmission.{buffer_size, is_last, front_words, stored_words, is_stored}
 use Rattle.paper.specs.Ledger.{Written, Whole, kept_of, laid_later, laid_first, laid, laid_all}
 use Rattle.paper.proofs.Kept.{sizes_of, Fine, Run, Ended, GoodWhole, AllGood, open_behind}
-use Rattle.paper.proofs.Choice.{and_left, and_right}
+use Rattle.std.proofs.lemmas.Bool.Decides.{nat_tests}
 
 -- The bytes of buffers, with one more behind them.
 pub sizes_of-snoc : (xs : List Written) (x : Written) → sizes_of (xs ++ (x ∷ [])) ≡ sizes_of xs + buffer_size x.a
@@ -67,8 +67,8 @@ kept_none a = rw (drop-nil, take-nil)
 -- A payload word that is stored goes behind those stored.
 pub kept_stored : (a : ℕ) (words : List ℕ) (w : ℕ) → is_stored a (length words) ≡ true → kept_of a (words ++ (w ∷ [])) ≡ kept_of a words ++ (w ∷ [])
 kept_stored a words w e =
-    let from : front_words a ≤ length words = leb-true _ _ (and_left _ _ e) in
-    let below : length words < front_words a + stored_words a = ltb-true _ _ (and_right (leb (front_words a) (length words)) _ e) in
+    let from : front_words a ≤ length words = grind (arith, nat_tests) in
+    let below : length words < front_words a + stored_words a = grind (arith, nat_tests) in
     rw (
       drop-append-le (front_words a) words (w ∷ []) from,
       take_all (stored_words a) (drop (front_words a) words ++ (w ∷ [])) (simp (length-append, length-drop) (omega arith)),

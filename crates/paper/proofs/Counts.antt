@@ -9,24 +9,23 @@
 use Rattle.std.specs.Prelude.{if◌then◌else◌}
 use mathlib.Core.Path.{◌≡◌, refl, sym, ap, subst, ◌∙◌}
 use mathlib.Core.Bool.{Bool, true, false, not, ◌&&◌, ◌||◌}
-use mathlib.Core.List.{List, [], ◌∷◌, ◌++◌, append-nil}
-use Prim.Native.Nat.{ℕ, zero, suc, ◌+◌, ◌-◌, ◌*◌, ◌/◌, ◌^◌, ◌≤◌, ◌<◌}
-use native.Mathlib.Nat.{mod-eq_of_lt, mul-le-mul_right}
+use mathlib.Core.List.{List, [], ◌∷◌, append-nil}
+use Prim.Native.Nat.{ℕ, zero, suc, ◌+◌, ◌-◌, ◌*◌, ◌^◌, ◌≤◌, ◌<◌}
+use native.Mathlib.Nat.{mod-eq_of_lt}
 use native.Mathlib.Omega.{arith}
-use lib.Dec.{ltb, leb, eqb}
-use lib.ListN.{length, get_or, take, drop, replicate, length-append, length-take, length-drop, length-replicate}
+use lib.Dec.{ltb}
+use lib.ListN.{length, get_or, take, drop, length-append, length-take, length-drop, length-replicate}
 use lib.Seq.{length-take-le}
-use borrow.Author.Tests.{ltb-true, ltb-false, leb-true, eqb-true, not-true, not-false, eqb-false}
-use Rattle.paper.specs.Words.{digit, bit, gathered, only_bits, word_at}
-use Rattle.paper.specs.Registers.{setting_number, good_maccr, carried, is_defined, setting_of, rx_fifo_inf, tx_fifo_inf, one_more}
-use Rattle.paper.specs.Checksum.{fcs, with_fcs}
-use Rattle.paper.specs.Status.{Look, length_or_type, wrong_length, is_runt, is_long, is_error, collision, status}
-use Rattle.paper.specs.Filter.{is_broadcast, is_group}
+use borrow.Author.Tests.{ltb-false, eqb-true, not-false}
+use Rattle.paper.specs.Words.{digit, mark, gathered, only_bits, word_at}
+use Rattle.paper.specs.Registers.{setting_number, good_maccr, carried, rx_fifo_inf, tx_fifo_inf, one_more}
+use Rattle.paper.specs.Checksum.{with_fcs}
+use Rattle.paper.specs.Status.{Look, status}
 use Rattle.paper.specs.Arrivals.{words_for, data_words, good_flags}
-use Rattle.paper.specs.Transmission.{alignment, alignment_field, offset, buffer_size, is_last, rounded_up, host_words, front_words, stored_words, behind_words, good_a, good_length, sizes_agree, no_crc, no_padding, packet_length}
+use Rattle.paper.specs.Transmission.{buffer_size, is_last, host_words, front_words, stored_words, behind_words, good_a, good_length, sizes_agree, no_crc, no_padding, packet_length}
 use Rattle.paper.specs.Sending.{Buffer, Head, NoPacket, Found, behind, from_a, from_b, buffers_from, head_of, buffer_bytes, sent_bytes, freed, frame_of, good_outcome, tx_status}
 use Rattle.paper.proofs.Words.{series-length, series-get_or, bytes_of-length}
-use Rattle.paper.proofs.Choice.{if_cases, and_left, and_right, and_three, or_neither, mark_bound}
+use Rattle.std.proofs.lemmas.Bool.{or_parts}
 use Rattle.std.proofs.lemmas.Bool.Decides.{nat_tests}
 
 -- A frame has as many data words as its bytes take.
@@ -124,6 +123,10 @@ outcome_bound o e = only_bits_bound (11 ∷ 10 ∷ 9 ∷ 8 ∷ 6 ∷ 5 ∷ 4 ∷
 -- A good MAC_CR is a word.
 pub maccr_bound : (v : ℕ) → good_maccr v ≡ true → v < 2 ^ 32
 maccr_bound v e = grind (arith, only_bits_bound carried v)
+
+-- A mark is at most its bit.
+mark_bound : (i : ℕ) (b : Bool) → mark i b ≤ 2 ^ i
+mark_bound i b = grind arith
 
 -- An RX status is below 2^31.
 pub status_bound : (limit : ℕ) (miss : Bool) (l : Look) → l.len ≤ 2048 → status limit miss l < 2 ^ 31
@@ -268,7 +271,7 @@ unfolding buffers_from
 buffers_behind zero b sizes a q b' xs e = nothing_found e
 buffers_behind (suc most) b sizes a q b' xs e =
     let chosen = found_else (not (sizes_agree a b sizes) || ltb (length q) (stored_words a)) _ b' xs e in
-    let tests = or_neither (not (sizes_agree a b sizes)) (ltb (length q) (stored_words a)) chosen.0 in
+    let tests = or_parts (not (sizes_agree a b sizes)) (ltb (length q) (stored_words a)) chosen.0 in
     behind_found (λ ys. Behind sizes q b b' ys) _ _ b' xs
     (λ ys. buffer_behind b sizes a q (not-false _ tests.0) (ltb-false _ _ tests.1) _ b' ys
     (λ later rest. buffers_behind most b (sizes + buffer_size a) later rest b' ys))

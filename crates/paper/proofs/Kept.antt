@@ -12,10 +12,8 @@ use mathlib.Core.List.{List, [], ◌∷◌, ◌++◌}
 use Prim.Native.Nat.{ℕ, ◌+◌, ◌-◌, ◌%◌, ◌^◌, ◌≤◌, ◌<◌}
 use native.Mathlib.Nat.{zero-mod, mod-add-mod}
 use native.Mathlib.Omega.{arith}
-use lib.Dec.{leb}
 use lib.ListN.{length, drop, length-append, length-drop}
 use lib.Seq.{drop-append-le, drop-drop}
-use borrow.Author.Tests.{leb-true}
 use Rattle.paper.specs.declared.Registers.{Registers}
 use Rattle.paper.specs.declared.Ring.{Ring}
 use Rattle.paper.specs.declared.Packet.TheVariants.{Closed, Opened, Known}
@@ -27,7 +25,7 @@ use Rattle.paper.specs.declared.Fifo.{Fifo}
 use Rattle.paper.specs.declared.Fifo.TheVariants.{TxData, TxStatus, RxData, RxStatus}
 use Rattle.paper.specs.Memory.{Change, keeps, puts, takes, restarts, size, of, words_lent}
 use Rattle.paper.specs.Memory.{ring_after, memory_after, waiting_after}
-use Rattle.paper.specs.Registers.{good_n, good_maccr, good_addrh, good_registers, with_drops}
+use Rattle.paper.specs.Registers.{good_registers, with_drops}
 use Rattle.paper.specs.Fresh.{fresh_registers, fresh_control}
 use Rattle.paper.specs.Transmission.{buffer_size, is_last, host_words, good_a, good_length}
 use Rattle.paper.specs.Acts.{Act, restarted, does}
@@ -35,12 +33,12 @@ use Rattle.paper.specs.Machine.{World, waits, apply, fresh}
 pub use Rattle.paper.specs.Packets.{Begun, Fine, Ended, GoodWhole}
 use Rattle.paper.specs.Ledger.{Written, Whole, Taking, Nothing, FirstA, Between, LaterA, Filling, Wrote, Ledger, begun, put, taken}
 use Rattle.paper.specs.Ledger.{laid_all, laid_so_far, all_words}
-use Rattle.paper.proofs.Choice.{and_left, and_right, and_three}
 use Rattle.paper.proofs.Memory.{Fits, waiting_length}
 use Rattle.paper.proofs.Compute.{everything}
 use Rattle.paper.specs.Memory.{ring}
 use Rattle.paper.proofs.Rings.{split, waits_of, Sound, AllFit, apply-ring, apply-ring_anew, apply-split}
 use Rattle.paper.proofs.Rings.{apply-waits, apply-waits_anew, apply_sound, apply_sound_anew}
+use Rattle.std.proofs.lemmas.Bool.Decides.{nat_tests}
 
 -- ---- The control state that a ledger implies
 
@@ -171,9 +169,7 @@ kept_apply {l} {l'} {a} {w} h v =
 -- n of good registers is 2 to 14.
 pub good_split : (r : Registers) → good_registers r ≡ true → (2 ≤ r.n) × (r.n ≤ 14)
 unfolding good_registers
-good_split r e =
-    let n : good_n r.n ≡ true = (and_three (good_n r.n) (good_maccr r.maccr) (good_addrh r.addrh) e).0 in
-    (leb-true _ _ (and_left (leb 2 r.n) (leb r.n 14) n), leb-true _ _ (and_right (leb 2 r.n) (leb r.n 14) n))
+good_split r e = grind (arith, nat_tests)
 
 -- An act that restarts all four FIFOs, perhaps with another n, gives a world with nothing put or taken.
 pub kept_anew : {l' : Ledger} (a : Act) (w : World) → length w.memory ≡ words_lent → a.changes ≡ restarted → a.control ≡ control_of l' → Legal l'

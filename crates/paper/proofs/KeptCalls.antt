@@ -7,28 +7,24 @@ use Rattle.std.specs.Prelude.{not}
 use mathlib.Core.Path.{◌≡◌, refl}
 use mathlib.Core.Bool.{true}
 use Prim.Native.Nat.{ℕ}
-use lib.Dec.{eqb}
-use borrow.Author.Tests.{eqb-true, not-false}
+use borrow.Author.Tests.{not-false}
 use Rattle.paper.specs.declared.Registers.{Registers}
 use Rattle.paper.specs.declared.Refusal.TheVariants.{NoRegister, BadValue}
 use Rattle.paper.specs.declared.Fifo.TheVariants.{TxStatus, RxData, RxStatus}
-use Rattle.paper.specs.Registers.{good_n, good_maccr, good_addrh, good_value, good_registers, write_register, is_register}
+use Rattle.paper.specs.Registers.{good_value, good_registers, write_register, is_register}
 use Rattle.paper.specs.Calls.{MacWrite, MacRead, Split, RxFifoInf, TxFifoInf, RxDrop, RxDataRead, RxStatusPop, RxStatusPeek, TxStatusPop, TxStatusPeek}
 use Rattle.paper.specs.Machine.{World, decide}
 use Rattle.paper.specs.Ledger.{Ledger, entered, note, put, taken}
-use Rattle.paper.proofs.Choice.{and_three, and_both, if_cases}
 use Rattle.paper.proofs.Kept.{Kept}
 use Rattle.paper.proofs.Fifos.{each}
 use Rattle.paper.proofs.KeptMoves.{KeptBy, kept_by, kept_still, kept_unless, kept_registers, kept_oldest}
+use Rattle.std.proofs.lemmas.Bool.Decides.{nat_tests}
+use native.Mathlib.Omega.{arith}
 
 -- What may be written leaves registers that a write accepts.
 written_good : (k v : ℕ) (r : Registers) → good_value k v ≡ true → good_registers r ≡ true → good_registers (write_register k v r) ≡ true
 unfolding good_registers write_register
-written_good k v r good e =
-    let parts = and_three (good_n r.n) (good_maccr r.maccr) (good_addrh r.addrh) e in
-    and_both _ _
-    (and_both _ _ parts.0 (if_cases (λ x. good_maccr x ≡ true) (eqb k 1) (λ t. rw t at good) (λ _. parts.1)))
-    (if_cases (λ x. good_addrh x ≡ true) (eqb k 2) (λ t. rw (eqb-true k 2 t) at good) (λ _. parts.2))
+written_good k v r good e = grind (arith, nat_tests)
 
 module _ {l : Ledger} {w : World} where
   -- Writing a MAC register.

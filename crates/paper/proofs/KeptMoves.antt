@@ -22,7 +22,7 @@ use Rattle.paper.specs.Calls.{Call}
 use Rattle.paper.specs.Acts.{Act, unchanged, refuses, oldest}
 use Rattle.paper.specs.Machine.{World, waits, decide, apply, step, answer, after}
 use Rattle.paper.specs.Ledger.{Received, Confirmed, Ledger, sets_error, note, put, taken}
-use Rattle.paper.proofs.Choice.{if_cases}
+use Rattle.std.proofs.lemmas.Bool.{cond_both}
 use Rattle.paper.proofs.Memory.{Fits}
 use Rattle.paper.specs.Memory.{ring}
 use Rattle.paper.proofs.Rings.{split, AllFit, unchanged_fits, apply_nothing}
@@ -64,7 +64,7 @@ module _ {l : Ledger} {w : World} (h : Kept l w) where
   -- A call that is refused where a test holds, and else does the act a.
   pub kept_unless : (c : Call) (b : Bool) (r : Refusal) (a : Act) → sets_error r ≡ false → (b ≡ false → KeptUnder c l w a)
       → KeptUnder c l w (if b then refuses r (control_of l) else a)
-  kept_unless c b r a e k = if_cases (KeptUnder c l w) b (λ _. kept_refused c r e) k
+  kept_unless c b r a e k = cond_both b _ _ (KeptUnder c l w) (λ _. kept_refused c r e) k
 
   -- An act that leaves n and the packets, and moves the other parts of the ledger and the FIFOs alike.
   pub kept_beside : (a : Act) (r : Registers) (d : ℕ) (x : Received) (y : Confirmed)

@@ -5,39 +5,33 @@
 --   laid_all-append, good_drop, laid_all_three, whole_held    the whole packets hold at least three words each
 --   kept_in_range, kept_act     the world is in range; each call does what is decided by what the ledger implies
 -- Assumes nothing.
-use Rattle.std.specs.Prelude.{if◌then◌else◌}
 use mathlib.Core.Path.{◌≡◌, refl, sym, ap, ◌∙◌}
-use mathlib.Core.Bool.{Bool, true, false, not, and-false}
+use mathlib.Core.Bool.{Bool, true, not, and-false}
 use mathlib.Core.List.{List, [], ◌∷◌, ◌++◌, append_assoc}
 use Prim.Native.Nat.{ℕ, zero, suc, ◌+◌, ◌-◌, ◌*◌, ◌≤◌}
 use native.Mathlib.Omega.{arith}
-use lib.Dec.{leb, eqb}
+use lib.Dec.{leb}
 use lib.ListN.{length, take, drop, length-append, length-drop, take-append-drop}
-use borrow.Author.Tests.{leb-true, eqb-true, le-leb, eq-eqb}
+use borrow.Author.Tests.{le-leb, eq-eqb}
 use Rattle.paper.specs.declared.Fifo.TheVariants.{TxData, TxStatus, RxData, RxStatus}
-use Rattle.paper.specs.Registers.{good_n, good_maccr, good_addrh, good_registers}
-use Rattle.paper.specs.Transmission.{alignment_field, buffer_size, is_first, is_last, packet_length, host_words, good_a, sizes_agree}
+use Rattle.paper.specs.Registers.{good_maccr, good_registers}
+use Rattle.paper.specs.Transmission.{buffer_size, is_first, packet_length, host_words, good_a, sizes_agree}
 use Rattle.paper.specs.Refusals.{expect_in_range, in_range}
 use Rattle.paper.specs.Calls.{Call, is_reset}
 use Rattle.paper.specs.Acts.{Act}
 use Rattle.paper.specs.Machine.{World, waits, act, decide, step, answer}
 use Rattle.paper.specs.Ledger.{Written, Whole, Taking, Nothing, FirstA, Between, LaterA, Filling, Ledger, laid_all, laid_so_far, put, taken}
-use Rattle.paper.proofs.Choice.{and_three}
 use Rattle.paper.proofs.Entry.{in_range_lem}
 use Rattle.paper.proofs.Kept.{sizes_of, expect_of, control_of, Run, none, more, AllGood, GoodOpen, GoodTaking, Kept, kept_count}
 use Rattle.paper.proofs.Packets.{laid_three}
+use Rattle.std.proofs.lemmas.Bool.Decides.{nat_tests}
 
 -- ---- What the port expects
 
 -- Sizes that agree with p, at Last or before it, are at most p.
 pub agree_within : (a b sizes : ℕ) → sizes_agree a b sizes ≡ true → sizes + buffer_size a ≤ packet_length b
 unfolding sizes_agree
-agree_within a b sizes = by_cases (is_last a)
-  where
-    by_cases : (last : Bool) → (if last then eqb (sizes + buffer_size a) (packet_length b) else leb (sizes + buffer_size a) (packet_length b)) ≡ true
-        → sizes + buffer_size a ≤ packet_length b
-    by_cases true e = omega (arith, eqb-true (sizes + buffer_size a) (packet_length b) e)
-    by_cases false e = leb-true _ _ e
+agree_within a b sizes e = grind (arith, nat_tests)
 
 -- The sizes of accepted buffers are at most p.
 pub run_within : {is_open : Bool} {b sizes : ℕ} {xs : List Written} → Run is_open b sizes xs → sizes ≤ packet_length b → sizes + sizes_of xs ≤ packet_length b
@@ -53,13 +47,7 @@ open_within {b} {xs} o = le-leb (sizes_of xs) (packet_length b) (omega (arith, r
 -- An A that is good with a packet open, or with none, is good by its own First bit.
 pub good_either : (is_open : Bool) (a : ℕ) → good_a is_open a ≡ true → good_a (not (is_first a)) a ≡ true
 unfolding good_a
-good_either is_open a good =
-    let parts = and_three (not (eqb (alignment_field a) 3)) (not (eqb (buffer_size a) 0)) _ good in
-    rw (parts.0, parts.1) (by_itself (is_first a))
-  where
-    by_itself : (first : Bool) → (if not first then not first else first) ≡ true
-    by_itself true = refl
-    by_itself false = refl
+good_either is_open a good = grind (arith, nat_tests)
 
 -- What the port expects is in range.
 pub taking_in_range : (t : Taking) → GoodTaking t → expect_in_range (expect_of t) ≡ true
@@ -123,13 +111,13 @@ pub kept_in_range : {l : Ledger} {w : World} → Kept l w → in_range w.state �
 unfolding good_registers
 kept_in_range {l} {w} h =
     let r = l.registers in
-    let good = and_three (good_n r.n) (good_maccr r.maccr) (good_addrh r.addrh) h.legal.registers in
+    let good : (good_maccr r.maccr ≡ true) × (r.addrh ≤ 0xFFFF) = grind (arith, nat_tests, h.legal.registers) in
     in_range_lem w.state
     (record {
       low = h.sound.low;
       high = h.sound.high;
-      registers = rw h.control good.1;
-      addrh = rw h.control (leb-true _ _ good.2);
+      registers = rw h.control good.0;
+      addrh = rw h.control good.1;
       txdata_at = (h.sound.rings TxData).at_lt;
       txdata_count = (h.sound.rings TxData).count_le;
       txstatus_at = (h.sound.rings TxStatus).at_lt;

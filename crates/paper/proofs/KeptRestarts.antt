@@ -3,19 +3,17 @@
 --   resized_port          where n may be set, the port is the fresh one
 -- Assumes nothing.
 use mathlib.Core.Path.{◌≡◌, refl, sym, ap, ◌∙◌}
-use mathlib.Core.Bool.{true, not, ◌&&◌}
+use mathlib.Core.Bool.{true, not, and-eq-true_iff}
 use Prim.Native.Nat.{ℕ, ◌-◌}
 use native.Mathlib.Omega.{arith}
-use lib.Dec.{eqb}
 use lib.ListN.{length, drop, length-append, length-drop}
 use borrow.Author.Tests.{eqb-true, not-true, not-false}
 use Rattle.paper.specs.declared.Registers.{Registers}
 use Rattle.paper.specs.declared.Refusal.TheVariants.{BadValue, NotNow}
 use Rattle.paper.specs.declared.Expect.TheVariants.{CommandA}
 use Rattle.paper.specs.declared.Packet.TheVariants.{Closed}
-use Rattle.paper.specs.Words.{bit}
 use Rattle.paper.specs.declared.Fifo.TheVariants.{TxData}
-use Rattle.paper.specs.Registers.{TXEN, RXEN, good_n, good_maccr, good_addrh, good_registers, with_n, is_idle, expects_first, may_resize, may_dump_rx, may_dump_tx_data}
+use Rattle.paper.specs.Registers.{good_n, good_registers, with_n, is_idle, expects_first, may_resize, may_dump_rx, may_dump_tx_data}
 use Rattle.paper.specs.Fresh.{fresh_registers, fresh_port}
 use Rattle.paper.specs.Calls.{Reset, SetSplit, DumpTxData, DumpTxStatus, DumpRx}
 use Rattle.paper.specs.Acts.{with_registers, with_port}
@@ -23,11 +21,11 @@ use Rattle.paper.specs.Machine.{World, waits, levels, decide}
 use Rattle.paper.specs.Ledger.{Taking, Nothing, FirstA, Between, LaterA, Filling, Wrote, Received, Confirmed, Ledger, none_wrote}
 use Rattle.paper.specs.Ledger.{entered, note, laid_all, laid_so_far, all_words, put, taken}
 use Rattle.paper.proofs.Compute.{everything}
-use Rattle.paper.proofs.Choice.{and_left, and_right, and_three, and_four, and_both}
 use Rattle.paper.proofs.Kept.{expect_of, port_of, control_of, AllGood, GoodTaking, Legal, Kept, kept_apply, kept_anew}
 use Rattle.paper.proofs.Fifos.{each}
 use Rattle.paper.proofs.KeptMoves.{KeptBy, kept_by, kept_unless, kept_beside}
 use Rattle.paper.proofs.KeptRange.{whole_held}
+use Rattle.std.proofs.Common.{rules}
 
 -- The registers of the fresh state are ones that a write accepts.
 fresh_good : good_registers fresh_registers ≡ true
@@ -63,30 +61,21 @@ first_closed (Filling b xs a words) e = cc
 -- An idle port with every packet sent is the fresh one.
 idle_port : (x : Wrote) → is_idle (port_of x) ≡ true → length x.packets - x.sent ≡ 0 → port_of x ≡ fresh_port
 idle_port x idle none =
-    rw (
-      first_closed x.taking (and_left (expects_first (expect_of x.taking)) _ idle),
-      not-true x.failed (and_right (expects_first (expect_of x.taking)) _ idle),
-      none,
-    )
+    let parts = simp and-eq-true_iff at idle in
+    rw (first_closed x.taking parts.0, not-true x.failed parts.1, none)
 
 -- Where n may be set, the port is the fresh one.
 resized_port : {l : Ledger} {w : World} → Kept l w → may_resize (control_of l).registers (port_of l.wrote) (levels (waits w)) ≡ true
     → port_of l.wrote ≡ fresh_port
 unfolding may_resize
 resized_port {l} {w} h e =
-    let r = l.registers in
-    let q = levels (waits w) in
-    let parts = and_four (eqb q.txdata 0 && eqb q.txstatus 0 && eqb q.rxdata 0 && eqb q.rxstatus 0)
-    (not (bit TXEN r.maccr)) (not (bit RXEN r.maccr)) (is_idle (port_of l.wrote)) e in
-    let empty = and_four (eqb q.txdata 0) (eqb q.txstatus 0) (eqb q.rxdata 0) (eqb q.rxstatus 0) parts.0 in
-    idle_port l.wrote parts.3 (all_sent h (eqb-true _ _ empty.0))
+    let parts = simp and-eq-true_iff at e in
+    idle_port l.wrote (search rules) (all_sent h (search (rules, eqb-true)))
 
 -- Another good n leaves registers that a write accepts.
 resized_good : (n : ℕ) (r : Registers) → good_n n ≡ true → good_registers r ≡ true → good_registers (with_n n r) ≡ true
 unfolding good_registers
-resized_good n r good e =
-    let parts = and_three (good_n r.n) (good_maccr r.maccr) (good_addrh r.addrh) e in
-    and_both _ _ (and_both _ _ good parts.1) parts.2
+resized_good n r good e = grind arith
 
 module _ {l : Ledger} {w : World} where
   -- Dumping TX status.

@@ -27,7 +27,7 @@ use Rattle.paper.specs.Machine.{World, waits, act, decide, step, after, answer}
 use Rattle.paper.specs.Ledger.{Whole, Ledger, packet_bytes, laid, put, taken, sets_error, entered, note}
 use Rattle.paper.specs.Runs.{sending, sending_to}
 use Rattle.paper.specs.Promises.{SendsOf, held}
-use Rattle.paper.proofs.Choice.{if_cases}
+use Rattle.std.proofs.lemmas.Bool.{cond_both}
 use Rattle.paper.proofs.Rings.{AllFit}
 use Rattle.paper.proofs.Kept.{control_of, Kept, Follows, Moves, kept_count, kept_apply}
 use Rattle.paper.proofs.KeptRange.{kept_act}
@@ -67,14 +67,14 @@ send_cases : (P : Act → Type 0) (l : Ledger) (outcome out_length : ℕ) → ((
     → ((p : Whole) (ps : List Whole) → unsent l ≡ p ∷ ps → held TxStatus l < size TxStatus l.registers.n → P (accepts p outcome (control_of l)))
     → P (send_of outcome out_length l)
 send_cases P l outcome out_length refused accepted =
-    if_cases P (not (bit TXEN l.registers.maccr)) (λ _. refused SendingOff refl)
-    (λ _. if_cases P (not (good_outcome outcome)) (λ _. refused OtherBits refl) (λ _. by_unsent (unsent l) refl))
+    cond_both (not (bit TXEN l.registers.maccr)) _ _ P (λ _. refused SendingOff refl)
+    (λ _. cond_both (not (good_outcome outcome)) _ _ P (λ _. refused OtherBits refl) (λ _. by_unsent (unsent l) refl))
   where
     by_unsent : (qs : List Whole) → unsent l ≡ qs → P (sends_to outcome out_length (held TxStatus l) (control_of l) qs)
     by_unsent [] e = refused NothingThere refl
     by_unsent (p ∷ ps) e =
-        if_cases P (leb (size TxStatus l.registers.n) (held TxStatus l)) (λ _. refused StatusFull refl)
-        (λ room. if_cases P (ltb out_length shortest_out) (λ _. refused OutShort refl) (λ _. accepted p ps e (leb-false _ _ room)))
+        cond_both (leb (size TxStatus l.registers.n) (held TxStatus l)) _ _ P (λ _. refused StatusFull refl)
+        (λ room. cond_both (ltb out_length shortest_out) _ _ P (λ _. refused OutShort refl) (λ _. accepted p ps e (leb-false _ _ room)))
 
 module _ {l : Ledger} {w : World} (h : Kept l w) (outcome : ℕ) (out : List ℕ) where
   -- The words waiting in TX status are as many as the ledger says.

@@ -3,7 +3,7 @@
 --   note_word             what the ledger notes of a word written
 --   kept_tx_word          after a word written to the port the world is as the ledger says
 -- Assumes nothing.
-use Rattle.std.specs.Prelude.{if◌then◌else◌, Err, Ok}
+use Rattle.std.specs.Prelude.{Err, Ok}
 use mathlib.Core.Path.{◌≡◌, refl, sym, ap, subst, ◌∙◌}
 use mathlib.Core.Bool.{Bool, true, false, not, ◌&&◌}
 use mathlib.Core.List.{List, [], ◌∷◌, ◌++◌, append-nil}
@@ -24,8 +24,8 @@ use Rattle.paper.specs.Calls.{TxWord}
 use Rattle.paper.specs.Acts.{Act, tx_word}
 use Rattle.paper.specs.Machine.{World, waits, levels, decide, apply, step, answer, after}
 use Rattle.paper.specs.Ledger.{Whole, Taking, Nothing, FirstA, Between, LaterA, Filling, Wrote, Ledger}
-use Rattle.paper.specs.Ledger.{laid_so_far, wrote_word, sets_error, with_wrote, entered, note, put, taken}
-use Rattle.paper.proofs.Choice.{if_cases, and_right}
+use Rattle.paper.specs.Ledger.{laid_so_far, wrote_word, with_wrote, entered, note, put, taken}
+use Rattle.std.proofs.lemmas.Bool.{and_parts, cond_both}
 use Rattle.paper.proofs.Counts.{host_words_pos}
 use Rattle.paper.proofs.Memory.{Fits, waiting_length}
 use Rattle.paper.proofs.Rings.{split, waits_of}
@@ -33,7 +33,7 @@ use Rattle.paper.proofs.Kept.{sizes_of, expect_of, port_of, control_of, Begun, R
 use Rattle.paper.proofs.Kept.{Kept, Follows, Moves, kept_apply}
 use Rattle.paper.proofs.KeptRange.{kept_act}
 use Rattle.paper.proofs.Buffers.{kept_stored, kept_thrown, laid_first_lem, laid_begins, laid_grows}
-use Rattle.paper.proofs.Turns.{failing, wrote_after, GoodWrote, Lays, lays_none, lays_one, Turned, TurnsTo, stands, failed, stored, moves_on}
+use Rattle.paper.proofs.Turns.{wrote_after, GoodWrote, Lays, lays_none, lays_one, Turned, TurnsTo, stands, failed, stored, moves_on}
 use Rattle.paper.proofs.Filled.{payload_taken}
 
 -- what was written, with no error
@@ -47,14 +47,14 @@ module _ (free : Bool) (w : ℕ) (packets : List Whole) (sent : ℕ) where
   unfolding takes_expected takes_a takes_b takes_payload expect_of sizes_of wrote_word GoodTaking laid_so_far
   word_turned Nothing good =
       let x = writing packets sent Nothing in
-      if_cases (TurnsTo free w x) (good_a false w)
+      cond_both (good_a false w) _ _ (TurnsTo free w x)
       (λ g. stored free w x good _ _ (λ f. moves_on free x good (FirstA w) _ refl g (lays_one w f refl)))
       (λ g. failed free w x good BadCommand refl)
   word_turned (FirstA a) good =
       let x = writing packets sent (FirstA a) in
-      if_cases (TurnsTo free w x) (not (good_length w))
+      cond_both (not (good_length w)) _ _ (TurnsTo free w x)
       (λ g. failed free w x good BadCommand refl)
-      (λ g. if_cases (TurnsTo free w x) (not (sizes_agree a w 0))
+      (λ g. cond_both (not (sizes_agree a w 0)) _ _ (TurnsTo free w x)
       (λ s. failed free w x good Disagrees refl)
       (λ s.
       let begun : Begun false w 0 a = record { good = good.taking; agree = not-false _ s } in
@@ -65,21 +65,21 @@ module _ (free : Bool) (w : ℕ) (packets : List Whole) (sent : ℕ) where
       (lays_one w f (laid_first_lem w a)))))
   word_turned (Between b xs) good =
       let x = writing packets sent (Between b xs) in
-      if_cases (TurnsTo free w x) (good_a true w)
+      cond_both (good_a true w) _ _ (TurnsTo free w x)
       (λ g. stored free w x good _ _ (λ f. moves_on free x good (LaterA b xs w) _ refl (good.taking.0, good.taking.1, g) (lays_one w f refl)))
       (λ g. failed free w x good BadCommand refl)
   word_turned (LaterA b xs a) good =
       let x = writing packets sent (LaterA b xs a) in
-      if_cases (TurnsTo free w x) (repeats b w && sizes_agree a b (sizes_of xs))
+      cond_both (repeats b w && sizes_agree a b (sizes_of xs)) _ _ (TurnsTo free w x)
       (λ s.
-      let begun : Begun (open_behind xs) b (sizes_of xs) a = record { good = rw good.taking.1 good.taking.2; agree = and_right (repeats b w) _ s } in
+      let begun : Begun (open_behind xs) b (sizes_of xs) a = record { good = rw good.taking.1 good.taking.2; agree = (and_parts (repeats b w) _ s).1 } in
       rw sub-zero at
       (moves_on free x good (Filling b xs a []) keeps refl (good.taking.0, begun, host_words_pos true a good.taking.2)
       (lays_none (laid_begins b xs a good.taking.1))))
       (λ s. failed free w x good Disagrees refl)
   word_turned (Filling b xs a words) good =
       let x = writing packets sent (Filling b xs a words) in
-      if_cases (TurnsTo free w x) (is_stored a (host_words a - (host_words a - length words)))
+      cond_both (is_stored a (host_words a - (host_words a - length words))) _ _ (TurnsTo free w x)
       (λ s. stored free w x good _ _ (λ f.
       payload_taken free x good refl b xs a (words ++ (w ∷ [])) _ _ good.taking.0 good.taking.1 count within
       (lays_one w f (laid_grows b xs a words _ (w ∷ []) (kept_stored a words w (rw index at s))))))
@@ -117,11 +117,7 @@ turned free w x good = by_error x.failed good
 pub note_word : (w : ℕ) (a : Answer) (l : Ledger) → note (TxWord w) a l ≡ with_wrote (wrote_after w a l.wrote) l
 unfolding note entered
 note_word w (Ok v) l = refl
-note_word w (Err r) l = either (sets_error r)
-  where
-    either : (b : Bool) → (if b then with_wrote (failing l.wrote) l else l) ≡ with_wrote (if b then failing l.wrote else l.wrote) l
-    either true = refl
-    either false = refl
+note_word w (Err r) l = grind arith
 
 -- A change that lays words fits a ring that has a word free where one is said to be.
 lays_fit : {free : Bool} {c : Change} {before behind : List ℕ} (s : ℕ) (r : Ring) → Lays free c before behind → (free ≡ true → r.count < s) → Fits s c r

@@ -11,7 +11,7 @@ use mathlib.Core.Logic.{◌≢◌}
 use mathlib.Core.Bool.{Bool, true, false}
 use mathlib.Core.List.{List, [], ◌∷◌, ◌++◌}
 use Prim.Native.Nat.{ℕ, zero, suc, ◌+◌, ◌-◌, ◌%◌, ◌≤◌, ◌<◌}
-use native.Mathlib.Nat.{add-zero, suc-add, add-suc, not-suc-le-zero, mod-lt, mod-eq_of_lt, mod-eq-sub-mod, mod-add-mod}
+use native.Mathlib.Nat.{add-zero, suc-add, add-suc, mod-lt, mod-eq_of_lt, mod-eq-sub-mod, mod-add-mod}
 use native.Mathlib.Omega.{arith}
 use lib.Dec.{ltb}
 use lib.ListN.{length, get_or, set, drop, length-set}

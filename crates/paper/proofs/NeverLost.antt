@@ -3,7 +3,7 @@
 --   never_entry            in a world as a ledger says no call has such an answer
 -- Assumes nothing.
 use native.Mathlib.Omega.{arith}
-use Rattle.std.specs.Prelude.{if◌then◌else◌, ◌&&◌, not, ltb, Err, Ok}
+use Rattle.std.specs.Prelude.{Err, Ok}
 use mathlib.Core.Path.{◌≡◌, refl, ap, ◌∙◌}
 use mathlib.Core.Bool.{Bool, false}
 use mathlib.Core.List.{List, [], ◌∷◌}
@@ -14,25 +14,18 @@ use Rattle.paper.specs.declared.Registers.{Registers}
 use Rattle.paper.specs.declared.Port.{Port}
 use Rattle.paper.specs.declared.Control.{Control}
 use Rattle.paper.specs.Answers.{Answer}
-use Rattle.paper.specs.declared.Room.{Room}
-use Rattle.paper.specs.declared.Room.TheVariants.{Fits, Short}
 use Rattle.paper.specs.declared.Fifo.TheVariants.{TxStatus}
-use Rattle.paper.specs.Memory.{Four, Change, size}
-use Rattle.paper.specs.Status.{Look, look, kept}
-use Rattle.paper.specs.Arrivals.{Verdict, refuses_length, good_flags, discards, arrival, room, by_room, arrival_answer, data_words}
-use Rattle.paper.specs.Transmission.{Turn, takes_a, takes_b, takes_payload, takes_expected, port_takes}
+use Rattle.paper.specs.Memory.{Four, Change}
+use Rattle.paper.specs.Status.{Look, look}
+use Rattle.paper.specs.Arrivals.{arrival, room, arrival_answer, data_words}
+use Rattle.paper.specs.Transmission.{takes_a, takes_b, takes_payload, takes_expected, port_takes}
 use Rattle.paper.specs.Refusals.{number}
 use Rattle.paper.specs.Calls.{Call, Reset, MacWrite, MacRead, SetSplit, Split, RxFifoInf, TxFifoInf, RxDrop, DumpTxData, DumpTxStatus, DumpRx, Arrive, RxDataRead, RxStatusPop, RxStatusPeek, TxWord, Send, TxStatusPop, TxStatusPeek}
 use Rattle.paper.specs.Acts.{Act, oldest}
 use Rattle.paper.specs.Machine.{World, waits, step, answer, decide}
 use Rattle.paper.specs.Ledger.{Taking, Nothing, FirstA, Between, LaterA, Filling, Ledger, Whole}
-use Rattle.paper.specs.Words.{bit}
-use Rattle.paper.specs.Registers.{TXEN, RXEN, RXALL}
-use Rattle.paper.specs.Filter.{passes}
-use Rattle.paper.specs.Sending.{shortest_out, good_outcome}
-use Rattle.paper.specs.Runs.{sending, sending_to}
+use Rattle.paper.specs.Runs.{sending}
 use Rattle.paper.specs.Promises.{held}
-use Rattle.paper.proofs.Choice.{if_cases}
 use Rattle.paper.proofs.ArrivalLines.{arrives_answer}
 use Rattle.paper.proofs.Kept.{Kept, control_of, expect_of}
 use Rattle.paper.proofs.KeptRange.{kept_act}
@@ -45,34 +38,12 @@ is_entry (Err r) = leb 14 (number r)
 abbrev Plain : Answer → Type 0
 Plain a = is_entry a ≡ false
 
--- A choice between acts none of which is so answered.
-either : (b : Bool) (x y : Act) → Plain x.answer → Plain y.answer → Plain (if b then x else y).answer
-either b x y p q = if_cases (λ (a : Act). Plain a.answer) b (λ _. p) (λ _. q)
-
-turns : (b : Bool) (x y : Turn) → Plain x.answer → Plain y.answer → Plain (if b then x else y).answer
-turns b x y p q = if_cases (λ (t : Turn). Plain t.answer) b (λ _. p) (λ _. q)
-
 -- ---- Arrivals
 
 -- The answers that the seven lines give.
 arrival_plain : (r : Registers) (words statuses : ℕ) (l : Look) → Plain (arrival_answer (arrival r words statuses l))
-unfolding arrival
-arrival_plain r words statuses l =
-    choose (refuses_length l.len) _ _ refl
-    (choose (not (good_flags l.flags)) _ _ refl
-    (choose (not (bit RXEN r.maccr)) _ _ refl
-    (choose (discards r l) _ _ refl
-    (choose (not (passes r l.head) && not (bit RXALL r.maccr)) _ _ refl (by_room_lem (room (kept l) words statuses))))))
-  where
-    P : Verdict → Type 0
-    P a = Plain (arrival_answer a)
-
-    choose : (b : Bool) (x y : Verdict) → P x → P y → P (if b then x else y)
-    choose b x y p q = if_cases P b (λ _. p) (λ _. q)
-
-    by_room_lem : (x : Room) → P (Ok (by_room x))
-    by_room_lem Fits = refl
-    by_room_lem Short = refl
+unfolding arrival room
+arrival_plain r words statuses l = grind arith
 
 -- ---- Reads
 
@@ -93,20 +64,14 @@ expected_plain free p (Filling b xs a words) w = grind arith
 
 word_plain : (free failed : Bool) (whole : ℕ) (t : Taking) (w : ℕ) → Plain (port_takes free (record { expect = expect_of t; failed = failed; whole = whole }) w).answer
 unfolding port_takes
-word_plain free failed whole t w = turns failed _ _ refl (expected_plain free _ t w)
+word_plain free failed whole t w = grind (arith, expected_plain)
 
 -- ---- Sending
 
 -- The answers to sending in a run.
 sending_plain : (r : Registers) (outcome out statuses : ℕ) (ps : List Whole) → Plain (sending r outcome out statuses ps)
-sending_plain r outcome out statuses ps = choose (not (bit TXEN r.maccr)) _ _ refl (choose (not (good_outcome outcome)) _ _ refl (to ps))
-  where
-    choose : (b : Bool) (x y : Answer) → Plain x → Plain y → Plain (if b then x else y)
-    choose b x y p q = if_cases Plain b (λ _. p) (λ _. q)
-
-    to : (ps : List Whole) → Plain (sending_to r.n out statuses ps)
-    to [] = refl
-    to (p ∷ ps) = choose (leb (size TxStatus r.n) statuses) _ _ refl (choose (ltb out shortest_out) _ _ refl refl)
+sending_plain r outcome out statuses [] = grind arith
+sending_plain r outcome out statuses (p ∷ ps) = grind arith
 
 -- ---- Every call
 

@@ -5,12 +5,12 @@
 -- Assumes nothing.
 use Rattle.std.specs.Prelude.{Ok}
 use mathlib.Core.Path.{◌≡◌, ap, ◌∙◌}
-use mathlib.Core.Bool.{Bool, true, false, not, ◌&&◌}
+use mathlib.Core.Bool.{Bool, true, false, not}
 use mathlib.Core.List.{List, [], ◌∷◌, ◌++◌, append-nil}
 use Prim.Native.Nat.{ℕ, ◌+◌, ◌-◌, ◌≤◌}
 use native.Mathlib.Nat.{sub-zero, zero-add}
 use native.Mathlib.Omega.{arith}
-use lib.Dec.{ltb, eqb}
+use lib.Dec.{ltb}
 use lib.ListN.{length, replicate}
 use borrow.Author.Tests.{lt-ltb, le-leb}
 use Rattle.paper.specs.declared.Packet.TheVariants.{Closed, Known}
@@ -19,17 +19,17 @@ use Rattle.paper.specs.declared.Expect.TheVariants.{CommandA, Payload}
 use Rattle.paper.specs.declared.Port.{Port}
 use Rattle.paper.specs.Answers.{Answer}
 use Rattle.paper.specs.Memory.{Change, keeps, puts, takes, restarts}
-use Rattle.paper.specs.Transmission.{alignment_field, buffer_size, is_first, is_last, packet_length, host_words, good_a, good_length}
+use Rattle.paper.specs.Transmission.{buffer_size, is_first, is_last, packet_length, host_words, good_a, good_length}
 use Rattle.paper.specs.Transmission.{is_open, port_takes}
 use Rattle.paper.specs.Refusals.{expect_in_range, known_in_range}
 use Rattle.paper.specs.Packets.{buffers_writes, host_writes}
 use Rattle.paper.specs.Ledger.{Written, Whole, kept_of, laid_later, laid_first, laid}
-use Rattle.paper.proofs.Choice.{and_right, and_both}
 use Rattle.paper.proofs.Counts.{host_words_pos}
 use Rattle.paper.proofs.Kept.{Fine, Ended, GoodWhole}
 use Rattle.paper.proofs.KeptRange.{agree_within}
 use Rattle.paper.proofs.WordsWritten.{stored_word, stored_from, kept_all, clear, thrown, lays, Writes, ends, on}
 use Rattle.paper.proofs.WordsWritten.{word_a, word_first_b, word_later_b, word_full, word_last, payload_writes}
+use Rattle.std.proofs.lemmas.Bool.Decides.{nat_tests}
 
 -- ---- the words of a packet, and a port that is fed with words
 
@@ -58,13 +58,12 @@ feed room p (w ∷ ws) =
 -- A good A is First exactly where no packet is open.
 good_first : (is_open : Bool) (a : ℕ) → good_a is_open a ≡ true → not (is_first a) ≡ is_open
 unfolding good_a
-good_first true a e = and_right (not (eqb (alignment_field a) 3) && not (eqb (buffer_size a) 0)) _ e
-good_first false a e = rw (and_right (not (eqb (alignment_field a) 3) && not (eqb (buffer_size a) 0)) _ e)
+good_first is_open a e = grind (arith, nat_tests)
 
 module _ (whole b : ℕ) (long : good_length b ≡ true) where
   -- A packet's B, with sizes that keep to its length.
   known_range : (sizes : ℕ) → sizes ≤ packet_length b → known_in_range b sizes ≡ true
-  known_range sizes h = and_both _ _ long (le-leb _ _ h)
+  known_range sizes h = grind (arith, nat_tests)
 
   -- A buffer with payload words left.
   payload_range : (is_open : Bool) (a left sizes : ℕ) → good_a is_open a ≡ true → sizes ≤ packet_length b → 1 ≤ left → left ≤ host_words a

@@ -19,7 +19,7 @@ use Rattle.paper.specs.Memory.{Change, keeps, puts}
 use Rattle.paper.specs.Transmission.{Turn, fails, moves, stores}
 use Rattle.paper.specs.Ledger.{Taking, Wrote, laid_all, laid_so_far}
 use Rattle.paper.specs.Ledger.{taking_on, wrote_word, sets_error}
-use Rattle.paper.proofs.Choice.{if_cases}
+use Rattle.std.proofs.lemmas.Bool.{cond_both}
 use Rattle.paper.proofs.Kept.{expect_of, port_of, AllGood, GoodTaking}
 
 abbrev pub laid_by : Wrote → List ℕ
@@ -75,7 +75,7 @@ module _ (free : Bool) (w : ℕ) (x : Wrote) (good : GoodWrote x) where
 
   -- A word to be stored is stored where a word is free, and refused where none is.
   pub stored : (e : Expect) (whole : ℕ) → (free ≡ true → TurnsTo free w x (moves e whole (puts (w ∷ [])))) → TurnsTo free w x (stores free (port_of x) e whole w)
-  stored e whole h = if_cases (TurnsTo free w x) free h (λ f. failed DataFull refl)
+  stored e whole h = cond_both free _ _ (TurnsTo free w x) h (λ f. failed DataFull refl)
 
 module _ (free : Bool) (x : Wrote) (good : GoodWrote x) where
   -- A word that makes no packet whole moves the packet being written on.

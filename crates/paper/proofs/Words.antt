@@ -5,14 +5,12 @@
 --   same_refl, same_true          the test `same` is equality
 -- Assumes nothing.
 use mathlib.Core.Path.{◌≡◌, refl, ap}
-use mathlib.Core.Bool.{true, and-eq-true_iff}
+use mathlib.Core.Bool.{true}
 use mathlib.Core.List.{List, [], ◌∷◌, ◌++◌}
 use Prim.Native.Nat.{ℕ, zero, suc, ◌+◌, ◌-◌, ◌*◌, ◌≤◌, ◌<◌}
-use native.Mathlib.Nat.{zero-add, add-zero, suc-add, sub-zero, suc-sub-suc, not-suc-le-zero}
+use native.Mathlib.Nat.{zero-add, add-zero, suc-add}
 use native.Mathlib.Omega.{arith}
-use lib.Dec.{eqb}
 use lib.ListN.{length, get_or, drop}
-use borrow.Author.Tests.{eqb-true, eq-eqb}
 use Rattle.paper.specs.Words.{series, bytes_of, same}
 use Rattle.std.proofs.lemmas.List.{same_lists, ext_get_or}
 use Rattle.std.proofs.lemmas.Bool.Decides.{nat_tests}

@@ -23,7 +23,7 @@ use Rattle.paper.specs.Transmission.{buffer_size, is_last, packet_length, tag, h
 use Rattle.paper.specs.Transmission.{is_open, opened, moves, takes_a, takes_b, takes_payload, takes_expected, port_takes, after_payload, whole_after}
 use Rattle.paper.specs.Refusals.{expect_in_range}
 use Rattle.paper.specs.Ledger.{kept_of}
-use Rattle.paper.proofs.Choice.{if_cases}
+use Rattle.std.proofs.lemmas.Bool.{cond_both}
 use Rattle.paper.proofs.Buffers.{kept_none, kept_stored, kept_thrown}
 
 -- ---- the payload words that are stored
@@ -40,7 +40,7 @@ stored_from a i (w ∷ ws) = stored_word a i w ++ stored_from a (suc i) ws
 -- One more payload word, stored or not.
 kept_word : (a : ℕ) (words : List ℕ) (w : ℕ) → kept_of a (words ++ (w ∷ [])) ≡ kept_of a words ++ stored_word a (length words) w
 kept_word a words w =
-    if_cases (λ new. kept_of a (words ++ (w ∷ [])) ≡ kept_of a words ++ new) (is_stored a (length words))
+    cond_both (is_stored a (length words)) _ _ (λ new. kept_of a (words ++ (w ∷ [])) ≡ kept_of a words ++ new)
     (λ e. kept_stored a words w e) (λ e. kept_thrown a words w e ∙ sym (append-nil _))
 
 -- Payload words behind others.
@@ -109,7 +109,7 @@ module _ (whole : ℕ) where
       → Word whole (Payload a left packet) w (after_payload a left packet) (whole_after a left whole) (stored_word a i w)
   unfolding port_takes takes_expected takes_payload
   word_payload a left i packet w e =
-      if_cases (Word whole (Payload a left packet) w (after_payload a left packet) (whole_after a left whole)) (is_stored a i)
+      cond_both (is_stored a i) _ _ (Word whole (Payload a left packet) w (after_payload a left packet) (whole_after a left whole))
       (λ s. lays (rw (e, s))) (λ s. thrown (λ free. rw (e, s)))
 
   -- One of at least two that are left: the buffer goes on.
