@@ -17,6 +17,7 @@ use Rattle.paper.specs.declared.Fifo.TheVariants.{TxData, TxStatus, RxData, RxSt
 use Rattle.paper.specs.Ledger.{Frame, Written, Whole, Taking, Nothing, FirstA, Between, LaterA, Filling, Received, Wrote, Ledger, kept_of, laid_later, laid_first, laid_all, laid_so_far, all_words, put, taken}
 use Rattle.paper.proofs.Counts.{data_words-length}
 use Rattle.paper.proofs.Kept.{sizes_of, expect_of, control_of}
+use Rattle.std.proofs.lemmas.List.{take-map}
 
 -- Choices that are alike branch by branch are alike.
 pub if_alike : {A B : Type 0} (f : A → B) (t : Bool) {x y x' y' : A} → (t ≡ true → f x ≡ f x') → (t ≡ false → f y ≡ f y')
@@ -167,12 +168,6 @@ so_far_bare (LaterA b xs a) = simp (length-append, first_bare b xs)
 so_far_bare (Filling b xs a words) =
     let open-one : List Written = record { a = a; words = words } ∷ [] in
     ap (λ ys. length (laid_first b ys)) (sym (map-append bare_buffer xs open-one)) ∙ first_bare b (xs ++ open-one)
-
--- The first of bare packets are the bare first packets.
-take-map : {A B : Type 0} (f : A → B) (k : ℕ) (xs : List A) → take k (map f xs) ≡ map f (take k xs)
-take-map f zero xs = refl
-take-map f (suc k) [] = refl
-take-map f (suc k) (x ∷ xs) = ap (λ ys. f x ∷ ys) (take-map f k xs)
 
 -- The words taken do not depend on content.
 pub bare_taken : (f : Fifo) (l : Ledger) → taken f (bare l) ≡ taken f l

@@ -32,6 +32,9 @@ use Rattle.paper.proofs.KeptRange.{kept_answer}
 use Rattle.paper.proofs.Alike.{bare, Alike, shared, bare_control, bare_taken, bare_length, bare_txstatus, bare_rxstatus}
 use Rattle.paper.proofs.AlikeWords.{word_alike}
 use Rattle.paper.proofs.AlikeHeads.{due, due_bare, head_kept, sends_alike}
+use Rattle.paper.proofs.Kept.{kept_held}
+use Rattle.paper.specs.Promises.{held}
+use mathlib.Core.Path.{sym}
 
 module _ {l : Ledger} {w : World} (h : Kept l w) where
   -- The oldest data word is the next of the frames.
@@ -59,9 +62,7 @@ oldest_told l l' k c (u ∷ q) (u' ∷ q') n same = word refl (λ s. ap Ok (same
 module _ {l l' : Ledger} {w w' : World} (h : Kept l w) (h' : Kept l' w') (e : Alike l l') where
   -- In each FIFO as many words wait.
   level_alike : (f : Fifo) → length (of (waits w) f) ≡ length (of (waits w') f)
-  level_alike f =
-      rw (h.queues f, h'.queues f)
-      (simp (length-drop, shared (taken f) (bare_taken f) l l' e, shared (λ x. length (put f x)) (bare_length f) l l' e))
+  level_alike f = kept_held h f ∙ shared (held f) (λ x. rw (bare_length f x, bare_taken f x)) l l' e ∙ sym (kept_held h' f)
 
   -- So the levels are the same.
   levels_alike : levels (waits w) ≡ levels (waits w')

@@ -18,6 +18,7 @@ use Rattle.paper.specs.Transmission.{buffer_size, is_last, front_words, stored_w
 use Rattle.paper.specs.Ledger.{Written, Whole, kept_of, laid_later, laid_first, laid, laid_all}
 use Rattle.paper.proofs.Kept.{sizes_of, Fine, Run, Ended, GoodWhole, AllGood, open_behind}
 use Rattle.std.proofs.lemmas.Bool.Decides.{nat_tests}
+use Rattle.paper.proofs.KeptRange.{laid_all-append}
 
 -- The bytes of buffers, with one more behind them.
 pub sizes_of-snoc : (xs : List Written) (x : Written) → sizes_of (xs ++ (x ∷ [])) ≡ sizes_of xs + buffer_size x.a
@@ -132,8 +133,7 @@ laid_grows b (x ∷ xs) a words words' new e =
 -- The words of packets, with one more behind them.
 pub laid_all-snoc : (ps : List Whole) (p : Whole) → laid_all (ps ++ (p ∷ [])) ≡ laid_all ps ++ laid p
 unfolding laid_all
-laid_all-snoc [] p = append-nil _
-laid_all-snoc (q ∷ ps) p = rw (laid_all-snoc ps p, append_assoc)
+laid_all-snoc ps p = rw (laid_all-append ps (p ∷ []), append-nil (laid p))
 
 -- Good packets, with one more good one behind them.
 pub all_good_snoc : (ps : List Whole) (p : Whole) → AllGood ps → GoodWhole p → AllGood (ps ++ (p ∷ []))

@@ -186,19 +186,13 @@ abbrev pub AllStored : List Buffer → Type 0
 AllStored [] = Unit {0}
 AllStored (x ∷ xs) = (length x.payload ≡ stored_words x.a) × AllStored xs
 
--- No packet is none found.
-nothing_found : {P : Type 0} {b : ℕ} {xs : List Buffer} → NoPacket ≡ Found b xs → P
-nothing_found e = absurd (let z : ◌≡◌ {A = ℕ} 0 1 = cc in omega arith)
-
 -- A choice that found a packet did not choose none.
 found_else : (t : Bool) (h : Head) (b : ℕ) (xs : List Buffer) → (if t then NoPacket else h) ≡ Found b xs → (t ≡ false) × (h ≡ Found b xs)
-found_else true h b xs e = (cc, cc)
-found_else false h b xs e = (refl, e)
+found_else t h b xs e = grind arith
 
 -- A choice that found a packet chose it.
 found_then : (t : Bool) (h : Head) (b : ℕ) (xs : List Buffer) → (if t then h else NoPacket) ≡ Found b xs → (t ≡ true) × (h ≡ Found b xs)
-found_then true h b xs e = (refl, e)
-found_then false h b xs e = (cc, cc)
+found_then t h b xs e = grind arith
 
 -- what a packet found after sizes bytes says, where q lies behind its first A, or behind its B
 record Behind (sizes : ℕ) (q : List ℕ) (b b' : ℕ) (xs : List Buffer) : Type 0 where
@@ -210,7 +204,7 @@ record Behind (sizes : ℕ) (q : List ℕ) (b b' : ℕ) (xs : List Buffer) : Typ
 -- What is found behind a buffer begins with that buffer.
 behind_found : (P : List Buffer → Type 0) (x : Buffer) (h : Head) (b : ℕ) (xs : List Buffer)
     → ((ys : List Buffer) → h ≡ Found b ys → P (x ∷ ys)) → behind x h ≡ Found b xs → P xs
-behind_found P x NoPacket b xs on e = nothing_found e
+behind_found P x NoPacket b xs on e = absurd (cc)
 behind_found P x (Found c ys) b xs on e =
     let same : (x ∷ ys) ≡ xs = cc in
     subst P same (on ys (cc))
@@ -262,13 +256,13 @@ module _ (b sizes a : ℕ) (q : List ℕ) (agree : sizes_agree a b sizes ≡ tru
           let same_b : b ≡ b' = cc in
           let none : [] ≡ ys = cc in
           rw (← same_b, ← none) (last_behind l)
-      by_cases false l [] d f = nothing_found f
+      by_cases false l [] d f = absurd (cc)
       by_cases false l (later ∷ rest) d f = more_behind later rest d b' ys (others later rest (found_then (good_a true later) _ b' ys f).1)
 
 -- What is found from an A on keeps to the packet length and to the words held.
 buffers_behind : (most b sizes a : ℕ) (q : List ℕ) (b' : ℕ) (xs : List Buffer) → buffers_from most b sizes a q ≡ Found b' xs → Behind sizes q b b' xs
 unfolding buffers_from
-buffers_behind zero b sizes a q b' xs e = nothing_found e
+buffers_behind zero b sizes a q b' xs e = absurd (cc)
 buffers_behind (suc most) b sizes a q b' xs e =
     let chosen = found_else (not (sizes_agree a b sizes) || ltb (length q) (stored_words a)) _ b' xs e in
     let tests = or_parts (not (sizes_agree a b sizes)) (ltb (length q) (stored_words a)) chosen.0 in
@@ -287,11 +281,11 @@ pub record HeadFits (q : List ℕ) (b : ℕ) (buffers : List Buffer) : Type 0 wh
 -- The head packet fits.
 pub head_fits : (q : List ℕ) (b : ℕ) (buffers : List Buffer) → head_of q ≡ Found b buffers → HeadFits q b buffers
 unfolding head_of
-head_fits [] b buffers e = nothing_found e
+head_fits [] b buffers e = absurd (cc)
 head_fits (a ∷ q) b buffers e = from_b_lem q (found_then (good_a false a) _ b buffers e).1
   where
     from_b_lem : (q : List ℕ) → from_b a q ≡ Found b buffers → HeadFits (a ∷ q) b buffers
-    from_b_lem [] f = nothing_found f
+    from_b_lem [] f = absurd (cc)
     from_b_lem (c ∷ q) f =
         let chosen = found_then (good_length c) _ b buffers f in
         let h = buffers_behind (length q) c 0 a q b buffers chosen.1 in

@@ -2,6 +2,7 @@
 --   Ready s               each number of the state s in its range, by name
 --   ready, in_range_lem   a state is in range exactly when it is ready
 --   fresh_in_range        the fresh state is in range
+--   ready_sound           a world whose state is ready is sound
 -- Assumes nothing.
 use mathlib.Core.Path.{◌≡◌, refl}
 use mathlib.Core.Bool.{true, and-eq-true_iff}
@@ -16,6 +17,10 @@ use Rattle.paper.specs.Refusals.{expect_in_range, in_range}
 use Rattle.paper.proofs.Compute.{everything}
 use Rattle.std.proofs.lemmas.Bool.Decides.{nat_tests}
 use Rattle.std.proofs.Common.{arith, rules}
+use Rattle.paper.specs.Machine.{World}
+use Rattle.paper.specs.Runs.{Lent}
+use Rattle.paper.proofs.Rings.{Sound}
+use Rattle.paper.proofs.Fifos.{each}
 
 -- The fresh state is in range.
 pub fresh_in_range : in_range fresh_state ≡ true
@@ -48,3 +53,18 @@ ready s e = let parts = simp and-eq-true_iff at e in search (rules, ltb-true, le
 pub in_range_lem : (s : State) → Ready s → in_range s ≡ true
 unfolding in_range good_registers
 in_range_lem s h = grind (arith, nat_tests)
+
+-- A ready state over 4,096 words makes a sound world.
+pub ready_sound : (w : World) → Lent w.memory → Ready w.state → Sound w
+ready_sound w lent r =
+    record {
+      lent = lent;
+      low = r.low;
+      high = r.high;
+      rings =
+          each _
+          (record { at_lt = r.txdata_at; count_le = r.txdata_count })
+          (record { at_lt = r.txstatus_at; count_le = r.txstatus_count })
+          (record { at_lt = r.rxdata_at; count_le = r.rxdata_count })
+          (record { at_lt = r.rxstatus_at; count_le = r.rxstatus_count });
+    }

@@ -30,21 +30,7 @@ use Rattle.paper.proofs.Rings.{split, Sound, AllFit, apply_sound}
 use Rattle.paper.proofs.Fifos.{each, waits_count}
 use Rattle.paper.proofs.Entry.{Ready, ready, in_range_lem}
 use Rattle.paper.proofs.ArrivalLines.{arrival_says, arrives_fits}
-
--- A ready state over 4,096 words makes a sound world.
-ready_sound : (w : World) → Lent w.memory → Ready w.state → Sound w
-ready_sound w lent r =
-    record {
-      lent = lent;
-      low = r.low;
-      high = r.high;
-      rings =
-          each _
-          (record { at_lt = r.txdata_at; count_le = r.txdata_count })
-          (record { at_lt = r.txstatus_at; count_le = r.txstatus_count })
-          (record { at_lt = r.rxdata_at; count_le = r.rxdata_count })
-          (record { at_lt = r.rxstatus_at; count_le = r.rxstatus_count });
-    }
+use Rattle.paper.proofs.Entry.{ready_sound}
 
 -- In range, with 4,096 words lent, a call does what is decided.
 pub in_range_act : (c : Call) (w : World) → Lent w.memory → in_range w.state ≡ true → act c w ≡ decide c w.state.control (waits w)

@@ -2,7 +2,7 @@
 --   sizes_of, expect_of, port_of, control_of    the control state that a ledger implies
 --   Fine, Run, Ended, Legal                 the buffers and packets that a port accepts
 --   Kept l w                                the world w is as the ledger l says, FIFO by FIFO
---   kept_count                              as many words wait as the ledger says
+--   kept_held, kept_count                   as many words wait as were put and not taken, and so many the ring counts
 --   Moves, kept_apply, kept_anew            an act that moves the ledger and the world alike keeps it
 --   kept_restarted, kept_fresh              a reset, and the fresh state, give the world of the ledger that has just begun
 -- Assumes nothing.
@@ -39,6 +39,7 @@ use Rattle.paper.specs.Memory.{ring}
 use Rattle.paper.proofs.Rings.{split, waits_of, Sound, AllFit, apply-ring, apply-ring_anew, apply-split}
 use Rattle.paper.proofs.Rings.{apply-waits, apply-waits_anew, apply_sound, apply_sound_anew}
 use Rattle.std.proofs.lemmas.Bool.Decides.{nat_tests}
+use Rattle.paper.specs.Promises.{held}
 
 -- ---- The control state that a ledger implies
 
@@ -120,10 +121,14 @@ pub record Moves (l l' : Ledger) (a : Act) (w : World) : Type 0 where
 
 -- ---- What keeps it
 
+-- As many words wait in a FIFO as were put and not taken.
+pub kept_held : {l : Ledger} {w : World} → Kept l w → (f : Fifo) → length (of (waits w) f) ≡ held f l
+kept_held {l} h f = ap length (h.queues f) ∙ length-drop (taken f l) (put f l)
+
 -- A world whose FIFOs hold as many words as the ledger says.
 pub kept_count : {l : Ledger} {w : World} → Kept l w → (f : Fifo) → (ring f w.state).count ≡ length (put f l) - taken f l
 kept_count {l} {w} h f =
-    sym (waiting_length _ _ _ w.memory) ∙ ap length (sym (waits_of f w) ∙ h.queues f) ∙ length-drop (taken f l) (put f l)
+    sym (waiting_length _ _ _ w.memory) ∙ ap length (sym (waits_of f w)) ∙ kept_held h f
 
 -- The n of a world is that of its ledger.
 pub kept_n : {l : Ledger} {w : World} → Kept l w → split w ≡ l.registers.n

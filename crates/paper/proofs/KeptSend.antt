@@ -34,6 +34,7 @@ use Rattle.paper.proofs.KeptRange.{kept_act}
 use Rattle.paper.proofs.KeptMoves.{KeptUnder, kept_refused}
 use Rattle.paper.proofs.Packets.{sent_of_laid, freed_of_laid}
 use Rattle.paper.proofs.Unsent.{unsent, next_good, next_counts, next_taken, next_waits, head_never_none}
+use Rattle.paper.proofs.Kept.{kept_held}
 
 -- ---- What a sending does, by the ledger
 
@@ -77,10 +78,6 @@ send_cases P l outcome out_length refused accepted =
         (λ room. cond_both (ltb out_length shortest_out) _ _ P (λ _. refused OutShort refl) (λ _. accepted p ps e (leb-false _ _ room)))
 
 module _ {l : Ledger} {w : World} (h : Kept l w) (outcome : ℕ) (out : List ℕ) where
-  -- The words waiting in TX status are as many as the ledger says.
-  statuses_held : length (waits w).txstatus ≡ held TxStatus l
-  statuses_held = ap length (h.queues TxStatus) ∙ length-drop (taken TxStatus l) (put TxStatus l)
-
   -- Whether a packet is whole is decided by those not sent, and the head packet is the first of them.
   sends_unsent : (qs : List Whole) → unsent l ≡ qs
       → (if eqb (control_of l).port.whole 0 then refuses NothingThere (control_of l) else
@@ -93,7 +90,7 @@ module _ {l : Ledger} {w : World} (h : Kept l w) (outcome : ℕ) (out : List ℕ
   sends_unsent (p ∷ ps) e =
       let some : (control_of l).port.whole ≡ 0 → ⊥ = omega (arith, next_counts h p ps e) in
       let good = next_good h p ps e in
-      rw (ne_eqb _ _ some, head_never_none h p ps e, statuses_held, freed_of_laid p good, sent_of_laid p good)
+      rw (ne_eqb _ _ some, head_never_none h p ps e, kept_held h TxStatus, freed_of_laid p good, sent_of_laid p good)
 
   -- A sending does what the ledger says.
   pub send_does : act (Send outcome out) w ≡ send_of outcome (length out) l
@@ -168,14 +165,10 @@ send_answers l outcome out_length = simp (answer_choice, by_unsent (unsent l))
 abbrev Sent : Whole → Act → Type 0
 Sent p a = (n : ℕ) → a.answer ≡ Ok n → a.sent ≡ frame_of p.b (packet_bytes p)
 
--- A refusal is no value.
-refused_no_value : {P : Type 0} {r : Refusal} {n : ℕ} → Err r ≡ Ok n → P
-refused_no_value e = absurd (let z : ◌≡◌ {A = ℕ} 0 1 = cc in omega arith)
-
 -- A sending sends the oldest packet that is not sent.
 send_sends : (l : Ledger) (outcome out_length : ℕ) (p : Whole) (ps : List Whole) → unsent l ≡ p ∷ ps → Sent p (send_of outcome out_length l)
 send_sends l outcome out_length p ps e =
-    send_cases (Sent p) l outcome out_length (λ r _ n a. refused_no_value a)
+    send_cases (Sent p) l outcome out_length (λ r _ n a. absurd (cc))
     (λ p' ps' e' room n a. let one : p' ≡ p = cc in rw one)
 
 -- The answer to a sending is the ledger's, and the frame sent is that of the oldest packet not sent, as the host wrote it.

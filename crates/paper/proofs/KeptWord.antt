@@ -35,6 +35,7 @@ use Rattle.paper.proofs.KeptRange.{kept_act}
 use Rattle.paper.proofs.Buffers.{kept_stored, kept_thrown, laid_first_lem, laid_begins, laid_grows}
 use Rattle.paper.proofs.Turns.{wrote_after, GoodWrote, Lays, lays_none, lays_one, Turned, TurnsTo, stands, failed, stored, moves_on}
 use Rattle.paper.proofs.Filled.{payload_taken}
+use Rattle.paper.proofs.Fifos.{waits_count}
 
 -- what was written, with no error
 abbrev writing : List Whole → (sent : ℕ) → Taking → Wrote
@@ -152,7 +153,7 @@ module _ {l : Ledger} {w : World} (word : ℕ) (h : Kept l w) where
   room : free ≡ true → w.state.txdata.count < size TxData (split w)
   room e =
       let n : split w ≡ l.registers.n = ap (λ k. k.registers.n) h.control in
-      let count : length (waits w).txdata ≡ w.state.txdata.count = ap length (waits_of TxData w) ∙ waiting_length _ _ _ _ in
+      let count : length (waits w).txdata ≡ w.state.txdata.count = waits_count w TxData in
       let below : length (waits w).txdata < size TxData l.registers.n = ltb-true _ _ e in
       rw n (omega arith)
 

@@ -28,7 +28,9 @@ use Rattle.paper.proofs.Packets.{laid_three}
 use Rattle.paper.proofs.WordsWritten.{clear, Writes, ends, on}
 use Rattle.paper.specs.Packets.{host_writes}
 use Rattle.paper.proofs.PacketWritten.{packet_writes}
-use Rattle.paper.proofs.WordTaken.{laid_behind, Able, data_count, word_answer, word_control, word_waits, word_able}
+use Rattle.paper.proofs.WordTaken.{laid_behind, Able, word_answer, word_control, word_waits, word_able}
+use Rattle.paper.proofs.Fifos.{waits_count}
+use Rattle.paper.specs.declared.Fifo.TheVariants.{TxData}
 
 -- the words ws, of which stored are to be stored, are all taken in the world w, and make one packet more than whole
 pub record Taken (whole : ℕ) (ws stored : List ℕ) (w : World) : Type 0 where
@@ -56,7 +58,7 @@ words_taken {whole} w (on {e' = e'} {w = word} {ws = ws} {new = new} {stored = s
     let sum : length (new ++ stored) ≡ length new + length stored = length-append new stored in
     let fits : length (waits w).txdata + length new ≤ size TxData (split w) = omega arith in
     let held : 3 * whole ≤ length (waits w).txdata + length new =
-    omega (arith, data_count w, h.fit.whole, ap (λ (p : Port). p.whole) h.port) in
+    omega (arith, waits_count w TxData, h.fit.whole, ap (λ (p : Port). p.whole) h.port) in
     let w' : World = after (TxWord word) w in
     let behind : waits w' ≡ laid_behind (waits w) new = word_waits h t fits in
     let count : length (waits w').txdata ≡ length (waits w).txdata + length new =
@@ -80,4 +82,4 @@ packet_taken p w good lent range e f room =
     let fit : Ready w.state = ready w.state range in
     words_taken w (packet_writes w.state.control.port.whole p good)
     (record { lent = lent; fit = fit; port = λ i. record { expect = e i; failed = f i; whole = w.state.control.port.whole } })
-    room (omega (arith, laid_three p good, data_count w, fit.whole))
+    room (omega (arith, laid_three p good, waits_count w TxData, fit.whole))

@@ -30,6 +30,7 @@ use Rattle.paper.proofs.PromisesReceive.{levels_of_lem, reads_of, whole_or_nothi
 use Rattle.paper.proofs.Steps.{kept_step}
 use Rattle.paper.specs.declared.Control.{Control}
 use Rattle.paper.proofs.PacketTaken.{packet_taken}
+use Rattle.std.proofs.lemmas.Bool.{true≢false}
 
 -- Two results that meet a call's contract are equal.
 pub unique : Unique
@@ -55,7 +56,7 @@ pub never_lost : NeverLost
 never_lost m lent cs c = (other _ refl, other _ refl)
   where
     other : (a : Answer) → is_entry a ≡ true → answer c (reached cs m) ≢ a
-    other a t e = let z : true ≡ false = sym t ∙ sym (ap is_entry e) ∙ never_entry c (kept_run m lent cs) in let y : ◌≡◌ {A = ℕ} 0 1 = cc in omega arith
+    other a t e = true≢false (sym t ∙ sym (ap is_entry e) ∙ never_entry c (kept_run m lent cs))
 
 -- A word that waits lies at its place: word j of a ring is at the place of its oldest plus j, and the oldest is at the number t of words taken, both mod size.
 ring_place : (b s : ℕ) (r : Ring) (m p : List ℕ) (t j : ℕ) → waiting b s r m ≡ drop t p → r.at ≡ t % s → j < r.count

@@ -32,10 +32,8 @@ use Rattle.paper.proofs.Answers.{arrival_one_to_one}
 use Rattle.paper.proofs.ArrivalLines.{SaysAt, arrival_says, arrival_drops, arrives_answer, arrives_split, arrives_still, arrives_fits}
 use Rattle.paper.proofs.Kept.{Kept}
 use Rattle.paper.proofs.KeptRange.{kept_act, kept_answer}
-
--- As many words wait in a FIFO as were put and not taken.
-kept_held : {l : Ledger} {w : World} → Kept l w → (f : Fifo) → length (of (waits w) f) ≡ held f l
-kept_held {l} h f = ap length (h.queues f) ∙ length-drop (taken f l) (put f l)
+use Rattle.std.proofs.lemmas.Bool.Decides.{nat_tests}
+use Rattle.paper.proofs.Kept.{kept_held}
 
 -- Levels, RX_DROP and n are what the ledger implies.
 pub levels_of_lem : {l : Ledger} {w : World} → Kept l w → LevelsOf w l
@@ -67,11 +65,7 @@ reads_of {l} {w} h =
 
 -- None is free exactly where as many wait as there is room for.
 none_free : (room level : ℕ) → eqb (room - level) 0 ≡ leb room level
-none_free room level = by_cases (leb room level) refl
-  where
-    by_cases : (b : Bool) → leb room level ≡ b → eqb (room - level) 0 ≡ b
-    by_cases true e = eq-eqb (room - level) 0 (omega (arith, leb-true room level e))
-    by_cases false e = ne_eqb (room - level) 0 (omega (arith, leb-false room level e))
+none_free room level = grind (arith, nat_tests)
 
 -- the line of 01 that answers an arrival in the world w
 abbrev line_of : (frame : List ℕ) (flags : ℕ) → World → Verdict

@@ -21,6 +21,7 @@ use Rattle.paper.specs.Acts.{Act, unchanged, restarted}
 use Rattle.paper.specs.Machine.{World, waits, apply}
 use Rattle.paper.proofs.Memory.{InRing, Fits, size_positive, within, apart, waiting_none}
 use Rattle.paper.proofs.Memory.{change_length, change_in_ring, change_waiting, change_elsewhere}
+use Rattle.std.proofs.Common.{rules}
 
 -- n, TX_FIF_SZ, of a world
 abbrev pub split : World → ℕ
@@ -50,17 +51,10 @@ memory_through n c r (f ∷ fs) m = memory_through n c r fs (memory_after (base 
 abbrev pub fifos : List Fifo
 fifos = TxData ∷ TxStatus ∷ RxData ∷ RxStatus ∷ []
 
--- their numbers, to tell them apart
-abbrev number : Fifo → ℕ
-number TxData = 0
-number TxStatus = 1
-number RxData = 2
-number RxStatus = 3
-
 -- FIFO g is not among fs
 abbrev Absent : Fifo → List Fifo → Type 0
 Absent g [] = Unit {0}
-Absent g (f ∷ fs) = (number f ≢ number g) × Absent g fs
+Absent g (f ∷ fs) = (f ≢ g) × Absent g fs
 
 -- changes leave the memory's length
 pub through_length : (n : ℕ) (c : Fifo → Change) (r : Fifo → Ring) (fs : List Fifo) (m : List ℕ) → length (memory_through n c r fs m) ≡ length m
@@ -75,7 +69,7 @@ module _ (n : ℕ) (low : 2 ≤ n) (high : n ≤ 14) (c : Fifo → Change) (r : 
   unfolding memory_through
   through_others g r' [] m a = refl
   through_others g r' (f ∷ fs) m a =
-      through_others g r' fs _ a.1 ∙ put_leaves_others n low high f g (λ e. a.0 (ap number e)) (c f) (r f) r' m
+      through_others g r' fs _ a.1 ∙ put_leaves_others n low high f g a.0 (c f) (r f) r' m
 
   -- of the changes of several FIFOs, a FIFO's own is what happens to the words waiting in it
   through_own : (g : Fifo) (fs gs : List Fifo) → Absent g fs → Absent g gs → (m : List ℕ) → length m ≡ words_lent → Fits (size g n) (c g) (r g)
@@ -86,16 +80,16 @@ module _ (n : ℕ) (low : 2 ≤ n) (high : n ≤ 14) (c : Fifo → Change) (r : 
       through_others g _ gs _ b ∙ change_waiting (base g n) (size g n) (c g) (r g) m (omega (arith, within g n low high)) t
   through_own g (f ∷ fs) gs a b m l t =
       through_own g fs gs a.1 b _ (change_length (base f n) (size f n) (c f) (r f) m ∙ l) t
-      ∙ ap (waiting_after (c g)) (put_leaves_others n low high f g (λ e. a.0 (ap number e)) (c f) (r f) (r g) m)
+      ∙ ap (waiting_after (c g)) (put_leaves_others n low high f g a.0 (c f) (r f) (r g) m)
 
   -- so it is with the changes of all four
   pub through_waiting : (g : Fifo) (m : List ℕ) → length m ≡ words_lent → Fits (size g n) (c g) (r g)
       → waiting (base g n) (size g n) (ring_after (size g n) (c g) (r g)) (memory_through n c r fifos m)
       ≡ waiting_after (c g) (waiting (base g n) (size g n) (r g) m)
-  through_waiting TxData = through_own TxData [] (TxStatus ∷ RxData ∷ RxStatus ∷ []) (omega arith) (omega arith)
-  through_waiting TxStatus = through_own TxStatus (TxData ∷ []) (RxData ∷ RxStatus ∷ []) (omega arith) (omega arith)
-  through_waiting RxData = through_own RxData (TxData ∷ TxStatus ∷ []) (RxStatus ∷ []) (omega arith) (omega arith)
-  through_waiting RxStatus = through_own RxStatus (TxData ∷ TxStatus ∷ RxData ∷ []) [] (omega arith) (omega arith)
+  through_waiting TxData = through_own TxData [] (TxStatus ∷ RxData ∷ RxStatus ∷ []) (search rules) (search rules)
+  through_waiting TxStatus = through_own TxStatus (TxData ∷ []) (RxData ∷ RxStatus ∷ []) (search rules) (search rules)
+  through_waiting RxData = through_own RxData (TxData ∷ TxStatus ∷ []) (RxStatus ∷ []) (search rules) (search rules)
+  through_waiting RxStatus = through_own RxStatus (TxData ∷ TxStatus ∷ RxData ∷ []) [] (search rules) (search rules)
 
 -- ---- what an act does
 

@@ -28,6 +28,8 @@ use Rattle.paper.proofs.Memory.{Fits, waiting_length}
 use Rattle.paper.proofs.Rings.{split, Sound, AllFit, waits_of, apply-waits, apply-length}
 use Rattle.paper.proofs.Entry.{Ready, in_range_lem}
 use Rattle.paper.proofs.WordsWritten.{clear, Word, thrown, lays}
+use Rattle.paper.proofs.Entry.{ready_sound}
+use Rattle.paper.proofs.Fifos.{waits_count}
 
 -- the words waiting, with more behind those of TX data
 abbrev pub laid_behind : Four (List ℕ) → List ℕ → Four (List ℕ)
@@ -79,25 +81,6 @@ pub record Able (w : World) (e : Expect) (whole : ℕ) : Type 0 where
   pub fit : Ready w.state
   pub port : w.state.control.port ≡ clear e whole
 
--- The words waiting in TX data are as many as its ring counts.
-pub data_count : (w : World) → length (waits w).txdata ≡ w.state.txdata.count
-data_count w = ap length (waits_of TxData w) ∙ waiting_length _ _ _ _
-
--- A world in range is sound.
-sound : (w : World) → length w.memory ≡ words_lent → Ready w.state → Sound w
-sound w lent h =
-    record {
-      lent = lent;
-      low = h.low;
-      high = h.high;
-      rings = elim [
-        | TxData ↦ record { at_lt = h.txdata_at; count_le = h.txdata_count }
-        | TxStatus ↦ record { at_lt = h.txstatus_at; count_le = h.txstatus_count }
-        | RxData ↦ record { at_lt = h.rxdata_at; count_le = h.rxdata_count }
-        | RxStatus ↦ record { at_lt = h.rxstatus_at; count_le = h.rxstatus_count }
-      ];
-    }
-
 module _ {w : World} {e e' : Expect} {whole whole' word : ℕ} {new : List ℕ} (h : Able w e whole) (t : Word whole e word e' whole' new)
     (room : length (waits w).txdata + length new ≤ size TxData (split w)) where
   -- The turn of an accepted word, where there is room for what it lays.
@@ -120,14 +103,14 @@ module _ {w : World} {e e' : Expect} {whole whole' word : ℕ} {new : List ℕ} 
 
   -- It fits.
   word_fits : AllFit its-act w
-  word_fits = elim [ TxData ↦ laying_fits _ _ new (omega (arith, data_count w, room)) | TxStatus ↦ tt | RxData ↦ tt | RxStatus ↦ tt ]
+  word_fits = elim [ TxData ↦ laying_fits _ _ new (omega (arith, waits_count w TxData, room)) | TxStatus ↦ tt | RxData ↦ tt | RxStatus ↦ tt ]
 
   -- The words waiting after it.
   pub word_waits : waits (after (TxWord word) w) ≡ laid_behind (waits w) new
   unfolding step waiting_after
   word_waits =
       let q : (f : Fifo) → of (waits (apply its-act w)) f ≡ waiting_after (of its-act.changes f) (of (waits w) f) =
-      apply-waits its-act w (sound w h.lent h.fit) word_fits refl in
+      apply-waits its-act w (ready_sound w h.lent h.fit) word_fits refl in
       rw word_act
       (λ i. record { txdata = (q TxData ∙ laying_waits new (waits w).txdata) i; txstatus = q TxStatus i; rxdata = q RxData i; rxstatus = q RxStatus i })
 
@@ -147,7 +130,7 @@ module _ {w : World} {e e' : Expect} {whole whole' word : ℕ} {new : List ℕ} 
           registers = h.fit.registers;
           addrh = h.fit.addrh;
           txdata_at = rw at h.fit.txdata_at;
-          txdata_count = rw count (omega (arith, data_count w, room));
+          txdata_count = rw count (omega (arith, waits_count w TxData, room));
           txstatus_at = h.fit.txstatus_at;
           txstatus_count = h.fit.txstatus_count;
           rxdata_at = h.fit.rxdata_at;
@@ -155,7 +138,7 @@ module _ {w : World} {e e' : Expect} {whole whole' word : ℕ} {new : List ℕ} 
           rxstatus_at = h.fit.rxstatus_at;
           rxstatus_count = h.fit.rxstatus_count;
           expect = r;
-          whole = rw count (omega (arith, data_count w));
+          whole = rw count (omega (arith, waits_count w TxData));
         };
       }
 
