@@ -18,6 +18,7 @@ use Rattle.paper.specs.Ledger.{Frame, Written, Whole, Taking, Nothing, FirstA, B
 use Rattle.paper.proofs.Counts.{data_words-length}
 use Rattle.paper.proofs.Kept.{sizes_of, expect_of, control_of}
 use Rattle.std.proofs.lemmas.List.{take-map}
+use native.Mathlib.Omega.{arith}
 
 -- Choices that are alike branch by branch are alike.
 pub if_alike : {A B : Type 0} (f : A → B) (t : Bool) {x y x' y' : A} → (t ≡ true → f x ≡ f x') → (t ≡ false → f y ≡ f y')
@@ -102,11 +103,7 @@ packets_twice = map_twice bare_packet (λ p. rw (buffers_twice p.buffers))
 -- What is written of a packet, once bare, is bare.
 pub taking_twice : (t : Taking) → bare_taking (bare_taking t) ≡ bare_taking t
 unfolding bare_taking
-taking_twice Nothing = refl
-taking_twice (FirstA a) = refl
-taking_twice (Between b xs) = rw (buffers_twice xs)
-taking_twice (LaterA b xs a) = rw (buffers_twice xs)
-taking_twice (Filling b xs a words) = rw (buffers_twice xs, zeros_twice words)
+taking_twice t = grind (arith, buffers_twice, zeros_twice)
 
 -- ---- A bare ledger implies the same control state, levels and statuses
 
@@ -119,11 +116,7 @@ sizes_bare (x ∷ xs) = rw (sizes_bare xs)
 -- What the port expects does not depend on content.
 expect_bare : (t : Taking) → expect_of (bare_taking t) ≡ expect_of t
 unfolding expect_of bare_taking
-expect_bare Nothing = refl
-expect_bare (FirstA a) = refl
-expect_bare (Between b xs) = rw (sizes_bare xs)
-expect_bare (LaterA b xs a) = rw (sizes_bare xs)
-expect_bare (Filling b xs a words) = rw (sizes_bare xs, zeros_length words)
+expect_bare t = grind (arith, sizes_bare, length-replicate)
 
 -- Nor does the control state.
 pub bare_control : (l : Ledger) → control_of (bare l) ≡ control_of l
@@ -190,7 +183,4 @@ bare_rxstatus l = map-map (λ (f : Frame). f.status) bare_frame l.received.frame
 -- Nor does the number of words put.
 pub bare_length : (f : Fifo) (l : Ledger) → length (put f (bare l)) ≡ length (put f l)
 unfolding put bare
-bare_length TxData l = simp (length-append, all_bare l.wrote.packets, so_far_bare l.wrote.taking)
-bare_length TxStatus l = refl
-bare_length RxData l = words_bare l.received.frames
-bare_length RxStatus l = ap length (bare_rxstatus l)
+bare_length f l = grind (arith, length-append, all_bare, so_far_bare, words_bare, bare_rxstatus)

@@ -76,7 +76,7 @@ entered_bare TxStatusPeek v l = simp bare-laws
 note_bare : (c : Call) (a : Answer) (l : Ledger) → Alike (note c a l) (note c a (bare l))
 unfolding note
 note_bare c (Ok v) l = entered_bare c v l
-note_bare c (Err r) l = if_alike bare (sets_error r) (λ _. unfold bare in simp bare-laws) (λ _. unfold bare in simp bare-laws)
+note_bare c (Err r) l = unfold bare in grind (arith, bare-laws)
 
 -- An answer noted in ledgers that are alike.
 pub note_alike : (c : Call) (a : Answer) (l l' : Ledger) → Alike l l' → Alike (note c a l) (note c a l')
@@ -97,12 +97,10 @@ payload_bare u v (Filling b xs a ws) x a' left k e =
 pub payload_note : (u v : ℕ) (answer : Answer) (l : Ledger) (a left : ℕ) (k : Packet) → expect_of l.wrote.taking ≡ Payload a left k
     → Alike (note (TxWord u) answer l) (note (TxWord v) answer l)
 unfolding note entered bare
-payload_note u v (Ok x) l a left k e = rw (payload_bare u v l.wrote.taking l.wrote a left k e)
-payload_note u v (Err r) l a left k e = refl
+payload_note u v a l a' left k e = grind (arith, payload_bare)
 
 -- Frames that look alike are noted alike.
 pub content_note : (f g : List ℕ) (flags : ℕ) (answer : Answer) (l : Ledger) → length f ≡ length g → take 14 f ≡ take 14 g → fcs_fits f ≡ fcs_fits g
     → Alike (note (Arrive f flags) answer l) (note (Arrive g flags) answer l)
-unfolding note entered
-content_note f g flags (Ok x) l e e' e'' = if_alike bare (eqb x 7) (λ _. unfold bare in simp (map-append, e, e', e'')) (λ _. refl)
-content_note f g flags (Err r) l e e' e'' = refl
+unfolding note entered bare
+content_note f g flags answer l e e' e'' = grind (arith, map-append, e, e', e'')

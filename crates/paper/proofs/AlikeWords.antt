@@ -16,19 +16,14 @@ use Rattle.paper.specs.Ledger.{Frame, all_words}
 use Rattle.paper.specs.Twins.{frame_at}
 use Rattle.paper.proofs.Counts.{data_words-length}
 use Rattle.paper.proofs.Alike.{zeros_length, bare_frame}
+use Rattle.std.proofs.lemmas.Bool.Decides.{nat_tests}
+use Rattle.std.proofs.lemmas.Grind.{elements}
 
 -- Word i of frames is of the first, or of the others.
 word_of : (f : Frame) (fs : List Frame) (i n : ℕ) → length (data_words f.bytes) ≡ n
     → get_or (all_words (f ∷ fs)) i 0 ≡ (if ltb i n then get_or (data_words f.bytes) i 0 else get_or (all_words fs) (i - n) 0)
 unfolding all_words
-word_of f fs i n e = by_cases (ltb i n) refl
-  where
-    by_cases : (t : Bool) → ltb i n ≡ t
-        → get_or (data_words f.bytes ++ all_words fs) i 0 ≡ (if t then get_or (data_words f.bytes) i 0 else get_or (all_words fs) (i - n) 0)
-    by_cases true h = get_or-append (data_words f.bytes) (all_words fs) 0 i (omega (arith, ltb-true i n h))
-    by_cases false h =
-        let at : i ≡ length (data_words f.bytes) + (i - n) = omega (arith, ltb-false i n h) in
-        ap (λ j. get_or (data_words f.bytes ++ all_words fs) j 0) at ∙ get_or-append-add (data_words f.bytes) (all_words fs) (i - n) 0
+word_of f fs i n e = grind (arith, nat_tests, elements)
 
 -- Frames that are alike have as many bytes.
 bytes_alike : (f g : Frame) → bare_frame f ≡ bare_frame g → length f.bytes ≡ length g.bytes

@@ -98,32 +98,17 @@ module _ (r : Registers) (words statuses : ℕ) (l : Look) where
 -- What is answered to an arrival is its line.
 pub arrives_answer : (a : Verdict) (k : Control) (l : Look) (words : List ℕ) → (arrives a k l words).answer ≡ arrival_answer a
 unfolding arrives
-arrives_answer (Err e) k l words = refl
-arrives_answer (Ok Ignored) k l words = refl
-arrives_answer (Ok Discarded) k l words = refl
-arrives_answer (Ok Filtered) k l words = refl
-arrives_answer (Ok Dropped) k l words = refl
-arrives_answer (Ok Stored) k l words = refl
+arrives_answer a k l words = grind arith
 
 -- An arrival leaves n.
 pub arrives_split : (a : Verdict) (k : Control) (l : Look) (words : List ℕ) → (arrives a k l words).control.registers.n ≡ k.registers.n
 unfolding arrives
-arrives_split (Err e) k l words = refl
-arrives_split (Ok Ignored) k l words = refl
-arrives_split (Ok Discarded) k l words = refl
-arrives_split (Ok Filtered) k l words = refl
-arrives_split (Ok Dropped) k l words = refl
-arrives_split (Ok Stored) k l words = refl
+arrives_split a k l words = grind arith
 
 -- An arrival that is not stored leaves all four FIFOs.
 pub arrives_still : (a : Verdict) (k : Control) (l : Look) (words : List ℕ) → a ≢ Ok Stored → (arrives a k l words).changes ≡ unchanged
 unfolding arrives
-arrives_still (Err e) k l words d = refl
-arrives_still (Ok Ignored) k l words d = refl
-arrives_still (Ok Discarded) k l words d = refl
-arrives_still (Ok Filtered) k l words d = refl
-arrives_still (Ok Dropped) k l words d = refl
-arrives_still (Ok Stored) k l words d = absurd (d refl)
+arrives_still a k l words d = grind arith
 
 -- What an arrival puts fits: the words and the status of a frame that is stored have room.
 pub arrives_fits : (a : Verdict) (k : Control) (w : World) (frame : List ℕ) (flags : ℕ) → Sound w → k.registers.n ≡ split w
@@ -142,10 +127,7 @@ arrives_fits (Ok Stored) k w frame flags sound same says =
 -- A rule does not look at RX_DROP.
 rule_drops : (d : ℕ) (rule : Rule) (r : Registers) (address : List ℕ) → passes_rule rule (with_drops d r) address ≡ passes_rule rule r address
 unfolding passes_rule
-rule_drops d Equal r address = refl
-rule_drops d NotEqual r address = refl
-rule_drops d Hash r address = refl
-rule_drops d Pass r address = refl
+rule_drops d rule r address = grind arith
 
 -- A setting does not.
 setting_drops : (d : ℕ) (s : Setting) (r : Registers) (head : List ℕ) → passes_setting s (with_drops d r) head ≡ passes_setting s r head

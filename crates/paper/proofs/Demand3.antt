@@ -42,8 +42,7 @@ pub record Met (l l' : Ledger) (c c' : Call) (a a' : Answer) : Type 0 where
 -- The word of a read is not noted.
 read_note : (a : Answer) (l : Ledger) → note RxDataRead a l ≡ note RxDataRead (blank_word a) l
 unfolding note entered
-read_note (Ok v) l = refl
-read_note (Err r) l = refl
+read_note a l = grind arith
 
 -- The same call, answered as told.
 told_met : (l l' : Ledger) → Alike l l' → {c : Call} {a a' : Answer} → Told l l' c a a' → Met l l' c c a a'
@@ -116,9 +115,7 @@ module _ {l l' : Ledger} {w w' : World} (h : Kept l w) (h' : Kept l' w') (e : Al
 -- An arrival that goes unheard is not noted.
 unheard_note : (f : List ℕ) (flags : ℕ) (l : Ledger) {a : Answer} → Unheard a → note (Arrive f flags) a l ≡ l
 unfolding note entered
-unheard_note f flags l ignored = refl
-unheard_note f flags l discarded = refl
-unheard_note f flags l filtered = refl
+unheard_note f flags l u = grind arith
 
 -- Runs from worlds whose ledgers are alike agree, and so do their logs.
 twins_agree : {w w' : World} {cs cs' : List Call} (l l' : Ledger) → Kept l w → Kept l' w' → Alike l l' → (t : Twins w w' cs cs')

@@ -205,18 +205,12 @@ begun_legal = record { registers = fresh_registers_lem; packets = tt; taking = t
 -- By it nothing was put into any FIFO.
 pub begun_put : (f : Fifo) → put f begun ≡ []
 unfolding put laid_all laid_so_far all_words
-begun_put TxData = refl
-begun_put TxStatus = refl
-begun_put RxData = refl
-begun_put RxStatus = refl
+begun_put f = grind arith
 
 -- By it nothing was taken.
 pub begun_taken : (f : Fifo) → taken f begun ≡ 0
 unfolding taken laid_all
-begun_taken TxData = refl
-begun_taken TxStatus = refl
-begun_taken RxData = refl
-begun_taken RxStatus = refl
+begun_taken f = grind arith
 
 -- A reset gives the world of that ledger.
 pub kept_restarted : (w : World) → length w.memory ≡ words_lent → Kept begun (apply (does fresh_control restarted 0) w)

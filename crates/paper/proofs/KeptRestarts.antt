@@ -52,11 +52,7 @@ all_sent {l} {w} h e =
 -- A port that expects a first A has no packet open.
 first_closed : (t : Taking) → expects_first (expect_of t) ≡ true → expect_of t ≡ CommandA Closed
 unfolding expect_of
-first_closed Nothing e = refl
-first_closed (FirstA a) e = cc
-first_closed (Between b xs) e = cc
-first_closed (LaterA b xs a) e = cc
-first_closed (Filling b xs a words) e = cc
+first_closed t e = grind arith
 
 -- An idle port with every packet sent is the fresh one.
 idle_port : (x : Wrote) → is_idle (port_of x) ≡ true → length x.packets - x.sent ≡ 0 → port_of x ≡ fresh_port

@@ -146,20 +146,14 @@ kept_send {l} {w} outcome out h =
 
 -- ---- The answer and the frame
 
--- The answer of a choice between acts is the choice between their answers.
-answer_choice : (t : Bool) (a a' : Act) → (if t then a else a').answer ≡ (if t then a.answer else a'.answer)
-answer_choice true a a' = refl
-answer_choice false a a' = refl
-
 -- A sending answers as the ledger says.
 send_answers : (l : Ledger) (outcome out_length : ℕ)
     → (send_of outcome out_length l).answer ≡ sending l.registers outcome out_length (held TxStatus l) (unsent l)
-send_answers l outcome out_length = simp (answer_choice, by_unsent (unsent l))
+send_answers l outcome out_length = grind (arith, by_unsent (unsent l))
   where
     by_unsent : (qs : List Whole)
         → (sends_to outcome out_length (held TxStatus l) (control_of l) qs).answer ≡ sending_to l.registers.n out_length (held TxStatus l) qs
-    by_unsent [] = refl
-    by_unsent (p ∷ ps) = simp answer_choice
+    by_unsent qs = grind arith
 
 -- what the act a sends, where it answers a value, is the frame of the packet p
 abbrev Sent : Whole → Act → Type 0

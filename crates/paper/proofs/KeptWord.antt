@@ -117,8 +117,7 @@ turned free w x good = by_error x.failed good
 -- What the ledger notes of a word written is what was written after it.
 pub note_word : (w : ℕ) (a : Answer) (l : Ledger) → note (TxWord w) a l ≡ with_wrote (wrote_after w a l.wrote) l
 unfolding note entered
-note_word w (Ok v) l = refl
-note_word w (Err r) l = grind arith
+note_word w a l = grind arith
 
 -- A change that lays words fits a ring that has a word free where one is said to be.
 lays_fit : {free : Bool} {c : Change} {before behind : List ℕ} (s : ℕ) (r : Ring) → Lays free c before behind → (free ≡ true → r.count < s) → Fits s c r

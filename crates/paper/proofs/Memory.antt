@@ -33,17 +33,11 @@ sizes_sum n low high = omega arith
 
 -- none is empty
 pub size_positive : (f : Fifo) (n : ℕ) → 2 ≤ n → n ≤ 14 → 0 < size f n
-size_positive TxData n low high = omega arith
-size_positive TxStatus n low high = omega arith
-size_positive RxData n low high = omega arith
-size_positive RxStatus n low high = omega arith
+size_positive f n low high = grind arith
 
 -- each lies in it
 pub within : (f : Fifo) (n : ℕ) → 2 ≤ n → n ≤ 14 → base f n + size f n ≤ words_lent
-within TxData n low high = omega arith
-within TxStatus n low high = omega arith
-within RxData n low high = omega arith
-within RxStatus n low high = omega arith
+within f n low high = grind arith
 
 -- s words from word b on, and s' words from b' on, with no word in both
 pub data Apart (b s b' s' : ℕ) : Type 0 where
@@ -52,22 +46,7 @@ pub data Apart (b s b' s' : ℕ) : Type 0 where
 
 -- no two parts meet
 pub apart : (f g : Fifo) (n : ℕ) → f ≢ g → 2 ≤ n → n ≤ 14 → Apart (base f n) (size f n) (base g n) (size g n)
-apart TxData TxData n d low high = absurd (d refl)
-apart TxData TxStatus n d low high = before (omega arith)
-apart TxData RxData n d low high = before (omega arith)
-apart TxData RxStatus n d low high = before (omega arith)
-apart TxStatus TxData n d low high = behind (omega arith)
-apart TxStatus TxStatus n d low high = absurd (d refl)
-apart TxStatus RxData n d low high = before (omega arith)
-apart TxStatus RxStatus n d low high = before (omega arith)
-apart RxData TxData n d low high = behind (omega arith)
-apart RxData TxStatus n d low high = behind (omega arith)
-apart RxData RxData n d low high = absurd (d refl)
-apart RxData RxStatus n d low high = before (omega arith)
-apart RxStatus TxData n d low high = behind (omega arith)
-apart RxStatus TxStatus n d low high = behind (omega arith)
-apart RxStatus RxData n d low high = behind (omega arith)
-apart RxStatus RxStatus n d low high = absurd (d refl)
+apart f g n d low high = grind arith
 
 -- places of two parts that do not meet are two places
 pub apart_places : {b s b' s' : ℕ} → Apart b s b' s' → 0 < s → 0 < s' → (i j : ℕ) → place b' s' j ≢ place b s i
@@ -178,10 +157,7 @@ put_all_reads b s k (w ∷ ws) m (suc i) h l fit = grind (arith, put_all_reads b
 -- a change leaves the memory's length
 pub change_length : (b s : ℕ) (c : Change) (r : Ring) (m : List ℕ) → length (memory_after b s c r m) ≡ length m
 unfolding memory_after
-change_length b s keeps r m = refl
-change_length b s (puts ws) r m = put_all-length b s (r.at + r.count) ws m
-change_length b s (takes k) r m = refl
-change_length b s restarts r m = refl
+change_length b s c r m = grind (arith, put_all-length)
 
 -- a change that fits leaves the ring in range
 pub change_in_ring : (s : ℕ) (c : Change) (r : Ring) → InRing s r → Fits s c r → InRing s (ring_after s c r)

@@ -48,19 +48,14 @@ arrival_plain r words statuses l = grind arith
 -- ---- Reads
 
 oldest_plain : (k : Control) (c : Four Change) (q : List ℕ) → Plain (oldest k c q).answer
-oldest_plain k c [] = refl
-oldest_plain k c (w ∷ q) = refl
+oldest_plain k c q = grind arith
 
 -- ---- Words
 
 -- A port that has come so far by accepted words expects no B without a packet.
 expected_plain : (free : Bool) (p : Port) (t : Taking) (w : ℕ) → Plain (takes_expected free p (expect_of t) w).answer
 unfolding takes_expected expect_of takes_a takes_b takes_payload
-expected_plain free p Nothing w = grind arith
-expected_plain free p (FirstA a) w = grind arith
-expected_plain free p (Between b xs) w = grind arith
-expected_plain free p (LaterA b xs a) w = grind arith
-expected_plain free p (Filling b xs a words) w = grind arith
+expected_plain free p t w = grind arith
 
 word_plain : (free failed : Bool) (whole : ℕ) (t : Taking) (w : ℕ) → Plain (port_takes free (record { expect = expect_of t; failed = failed; whole = whole }) w).answer
 unfolding port_takes

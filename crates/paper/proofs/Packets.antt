@@ -23,6 +23,9 @@ use Rattle.paper.specs.Ledger.{Written, Whole, kept_of, laid_later, laid_first, 
 use Rattle.paper.proofs.Counts.{stored_within, stored_words_pos, buffer_bytes-length}
 use Rattle.paper.specs.Packets.{last, more}
 use Rattle.paper.proofs.Kept.{Fine, Ended, GoodWhole}
+use Rattle.std.proofs.lemmas.List.{drop-take}
+use lib.ListN.{length-take}
+use Prim.Native.Nat.{◌-◌}
 
 -- a written buffer as it lies in TX data
 abbrev pub buffer_of : Written → Buffer
@@ -32,7 +35,7 @@ buffer_of x = record { a = x.a; payload = kept_of x.a x.words }
 
 -- The words kept of a full buffer are as many as its A says.
 pub kept_length : (a : ℕ) (words : List ℕ) → length words ≡ host_words a → length (kept_of a words) ≡ stored_words a
-kept_length a words full = length-take-le (stored_words a) (drop (front_words a) words) (rw length-drop (omega (arith, stored_within a)))
+kept_length a words full = grind (arith, length-take, length-drop, stored_within)
 
 -- Words dropped are four bytes each dropped.
 pub bytes_of-drop : (k : ℕ) (ws : List ℕ) → bytes_of (drop k ws) ≡ drop (4 * k) (bytes_of ws)
@@ -54,10 +57,9 @@ bytes_of-take (suc k) (w ∷ ws) =
 
 -- What lies within the first n elements is there without the others.
 pub take_within : {A : Type 0} (s r n : ℕ) (l : List A) → r + s ≤ n → take s (drop r (take n l)) ≡ take s (drop r l)
-take_within s zero n l h = take-take s n l (omega arith)
-take_within s (suc r) zero l h = absurd (omega arith)
-take_within s (suc r) (suc n) [] h = refl
-take_within s (suc r) (suc n) (x ∷ l) h = take_within s r n l (omega arith)
+take_within s r n l h =
+    let split : n ≡ r + (n - r) = omega arith in
+    rw split (rw drop-take (take-take s (n - r) (drop r l) (omega arith)))
 
 -- A buffer's bytes are in the words that are stored.
 pub kept_bytes : (x : Written) → buffer_bytes (buffer_of x) ≡ written_bytes x
@@ -85,13 +87,13 @@ sent_of_buffers (x ∷ xs) = rw (kept_bytes x, sent_of_buffers xs)
 freed_of_buffers : (xs : List Written) → freed (map buffer_of xs) ≡ 1 + length (laid_later xs)
 unfolding freed laid_later
 freed_of_buffers [] = refl
-freed_of_buffers (x ∷ xs) = rw (length-append (kept_of x.a x.words) (laid_later xs)) (omega (arith, freed_of_buffers xs))
+freed_of_buffers (x ∷ xs) = simp length-append (omega (arith, freed_of_buffers xs))
 
 -- Each of them has at least one word.
 buffers_words : (xs : List Written) → length xs ≤ length (laid_later xs)
 unfolding laid_later
 buffers_words [] = omega arith
-buffers_words (x ∷ xs) = rw (length-append (kept_of x.a x.words) (laid_later xs)) (omega (arith, buffers_words xs))
+buffers_words (x ∷ xs) = simp length-append (omega (arith, buffers_words xs))
 
 -- Buffers that end a packet bring its bytes to its length.
 ended_bytes : {is_open : Bool} {b sizes : ℕ} {xs : List Written} → Ended is_open b sizes xs → sizes + length (buffers_bytes xs) ≡ packet_length b

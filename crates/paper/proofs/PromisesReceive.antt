@@ -48,8 +48,7 @@ levels_of_lem h =
 
 -- The oldest word of a FIFO is answered, and 11 where there is none.
 oldest_answer : (k : Control) (changes : Four Change) (q : List ℕ) → (oldest k changes q).answer ≡ next_of q
-oldest_answer k changes [] = refl
-oldest_answer k changes (v ∷ q) = refl
+oldest_answer k changes q = grind arith
 
 -- Reads, pops and peeks answer the ledger's words, in order.
 pub reads_of : {l : Ledger} {w : World} → Kept l w → ReadsOf w l

@@ -30,10 +30,7 @@ split w = w.state.control.registers.n
 -- the words waiting in a FIFO are those of its ring in its part of the memory
 pub waits_of : (f : Fifo) (w : World) → of (waits w) f ≡ waiting (base f (split w)) (size f (split w)) (ring f w.state) w.memory
 unfolding waits
-waits_of TxData w = refl
-waits_of TxStatus w = refl
-waits_of RxData w = refl
-waits_of RxStatus w = refl
+waits_of f w = grind arith
 
 -- ---- changes of several FIFOs, one after the other
 
@@ -106,26 +103,17 @@ AllFit a w = (f : Fifo) → Fits (size f (split w)) (of a.changes f) (ring f w.s
 
 -- where nothing changes, each FIFO keeps its words
 unchanged_of : (f : Fifo) → of unchanged f ≡ keeps
-unchanged_of TxData = refl
-unchanged_of TxStatus = refl
-unchanged_of RxData = refl
-unchanged_of RxStatus = refl
+unchanged_of f = grind arith
 
 -- where all four restart, each does
 restarted_of : (f : Fifo) → of restarted f ≡ restarts
-restarted_of TxData = refl
-restarted_of TxStatus = refl
-restarted_of RxData = refl
-restarted_of RxStatus = refl
+restarted_of f = grind arith
 
 module _ (a : Act) (w : World) where
   -- each ring after an act is changed as the act says
   pub apply-ring : (f : Fifo) → ring f (apply a w).state ≡ ring_after (size f (split w)) (of a.changes f) (ring f w.state)
   unfolding apply
-  apply-ring TxData = refl
-  apply-ring TxStatus = refl
-  apply-ring RxData = refl
-  apply-ring RxStatus = refl
+  apply-ring f = grind arith
 
   -- each is anew after an act that restarts all four
   pub apply-ring_anew : a.changes ≡ restarted → (f : Fifo) → ring f (apply a w).state ≡ record { at = 0; count = 0 }

@@ -44,26 +44,22 @@ laying (w ∷ ws) = puts (w ∷ ws)
 
 -- It fits where there is room.
 laying_fits : (s : ℕ) (r : Ring) (new : List ℕ) → r.count + length new ≤ s → Fits s (laying new) r
-laying_fits s r [] h = tt
-laying_fits s r (w ∷ ws) h = h
+laying_fits s r new h = grind arith
 
 -- Behind the words waiting are those that it lays.
 laying_waits : (new q : List ℕ) → waiting_after (laying new) q ≡ q ++ new
 unfolding waiting_after
-laying_waits [] q = sym (append-nil q)
-laying_waits (w ∷ ws) q = refl
+laying_waits new q = grind (arith, append-nil)
 
 -- The ring's place stays.
 laying_at : (s : ℕ) (new : List ℕ) (r : Ring) → (ring_after s (laying new) r).at ≡ r.at
 unfolding ring_after
-laying_at s [] r = refl
-laying_at s (w ∷ ws) r = refl
+laying_at s new r = grind arith
 
 -- The ring counts them.
 laying_count : (s : ℕ) (new : List ℕ) (r : Ring) → (ring_after s (laying new) r).count ≡ r.count + length new
 unfolding ring_after
-laying_count s [] r = omega arith
-laying_count s (w ∷ ws) r = refl
+laying_count s new r = grind arith
 
 -- an act that moves the port and lays words
 abbrev accepting : Control → Expect → (whole : ℕ) → (new : List ℕ) → Act

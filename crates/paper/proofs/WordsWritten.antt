@@ -25,6 +25,7 @@ use Rattle.paper.specs.Refusals.{expect_in_range}
 use Rattle.paper.specs.Ledger.{kept_of}
 use Rattle.std.proofs.lemmas.Bool.{cond_both}
 use Rattle.paper.proofs.Buffers.{kept_none, kept_stored, kept_thrown}
+use Rattle.std.proofs.lemmas.Bool.Decides.{nat_tests}
 
 -- ---- the payload words that are stored
 
@@ -77,14 +78,12 @@ pub data Writes (whole : ℕ) : Expect → (ws stored : List ℕ) → Type 0 whe
 -- With two payload words left, one is left behind the next.
 more_left : (a left : ℕ) (packet : Packet) → after_payload a (suc (suc left)) packet ≡ Payload a (suc left) packet
 unfolding after_payload
-more_left a left packet =
-    let less : suc (suc left) - 1 ≡ suc left = omega arith in
-    rw (lt-ltb 1 (suc (suc left)) (omega arith), less)
+more_left a left packet = grind (arith, nat_tests)
 
 -- With two payload words left, the next makes no packet whole.
 more_whole : (a left whole : ℕ) → whole_after a (suc (suc left)) whole ≡ whole
 unfolding whole_after
-more_whole a left whole = rw (lt-ltb 1 (suc (suc left)) (omega arith))
+more_whole a left whole = grind (arith, nat_tests)
 
 module _ (whole : ℕ) where
   -- A good A is accepted and laid.
