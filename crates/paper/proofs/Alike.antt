@@ -20,12 +20,6 @@ use Rattle.paper.proofs.Kept.{sizes_of, expect_of, control_of}
 use Rattle.std.proofs.lemmas.List.{take-map}
 use native.Mathlib.Omega.{arith}
 
--- Choices that are alike branch by branch are alike.
-pub if_alike : {A B : Type 0} (f : A → B) (t : Bool) {x y x' y' : A} → (t ≡ true → f x ≡ f x') → (t ≡ false → f y ≡ f y')
-    → f (if t then x else y) ≡ f (if t then x' else y')
-if_alike f true e e' = e refl
-if_alike f false e e' = e' refl
-
 -- ---- Content made 0
 
 -- as many zeros as a list has values
@@ -75,13 +69,9 @@ shared m h l l' e = sym (h l) ∙ ap m e ∙ h l'
 
 -- ---- What is bare stays so
 
--- There are as many zeros as there were values.
-pub zeros_length : (s : List ℕ) → length (zeros s) ≡ length s
-zeros_length s = length-replicate (length s) _
-
 -- Zeros for zeros are those zeros.
 zeros_twice : (s : List ℕ) → zeros (zeros s) ≡ zeros s
-zeros_twice s = ap (λ n. replicate n 0) (zeros_length s)
+zeros_twice s = simp length-replicate
 
 -- What changes nothing the second time changes nothing the second time in each element of a list.
 map_twice : {A : Type 0} (f : A → A) → ((x : A) → f (f x) ≡ f x) → (xs : List A) → map f (map f xs) ≡ map f xs
@@ -127,11 +117,11 @@ bare_control l = rw (expect_bare l.wrote.taking, length-map l.wrote.packets bare
 words_bare : (fs : List Frame) → length (all_words (map bare_frame fs)) ≡ length (all_words fs)
 unfolding all_words
 words_bare [] = refl
-words_bare (f ∷ fs) = simp (length-append, data_words-length, zeros_length f.bytes, words_bare fs)
+words_bare (f ∷ fs) = simp (length-append, data_words-length, length-replicate, words_bare fs)
 
 -- Nor does the number of words kept of a buffer.
 stored_bare : (a : ℕ) (words : List ℕ) → length (kept_of a (zeros words)) ≡ length (kept_of a words)
-stored_bare a words = simp (length-take, length-drop, zeros_length words)
+stored_bare a words = simp (length-take, length-drop, length-replicate)
 
 -- Nor does the number of words laid for later buffers.
 later_bare : (xs : List Written) → length (laid_later (map bare_buffer xs)) ≡ length (laid_later xs)

@@ -17,7 +17,8 @@ use Rattle.paper.specs.Checksum.{fcs_fits}
 use Rattle.paper.specs.Calls.{Call, Reset, MacWrite, MacRead, SetSplit, Split, RxFifoInf, TxFifoInf, RxDrop, DumpTxData, DumpTxStatus, DumpRx, Arrive, RxDataRead, RxStatusPop, RxStatusPeek, TxWord, Send, TxStatusPop, TxStatusPeek}
 use Rattle.paper.specs.Ledger.{Written, Whole, Taking, Nothing, FirstA, Between, LaterA, Filling, Wrote, Ledger, filled, wrote_word, next_b, entered, sets_error, note}
 use Rattle.paper.proofs.Kept.{expect_of}
-use Rattle.paper.proofs.Alike.{zeros, zeros_length, bare_buffer, bare_packet, bare_taking, bare_wrote, bare, Alike, frames_twice, buffers_twice, packets_twice, taking_twice, if_alike}
+use Rattle.paper.proofs.Alike.{zeros, bare_buffer, bare_packet, bare_taking, bare_wrote, bare, Alike, frames_twice, buffers_twice, packets_twice, taking_twice}
+use lib.ListN.{length-replicate}
 
 -- what is bare stays so
 ruleset bare-laws = (map-append, frames_twice, buffers_twice, packets_twice, taking_twice)
@@ -38,7 +39,7 @@ word_bare w Nothing x = simp bare-laws
 word_bare w (FirstA a) x = simp bare-laws
 word_bare w (Between b xs) x = simp bare-laws
 word_bare w (LaterA b xs a) x = simp bare-laws
-word_bare w (Filling b xs a words) x = filled_bare b xs a (words ++ (w ∷ [])) (zeros words ++ (w ∷ [])) x (simp (length-append, zeros_length words))
+word_bare w (Filling b xs a words) x = filled_bare b xs a (words ++ (w ∷ [])) (zeros words ++ (w ∷ [])) x (simp (length-append, length-replicate))
 
 -- ---- One more call
 

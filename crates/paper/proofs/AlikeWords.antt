@@ -15,9 +15,10 @@ use Rattle.paper.specs.Arrivals.{data_words}
 use Rattle.paper.specs.Ledger.{Frame, all_words}
 use Rattle.paper.specs.Twins.{frame_at}
 use Rattle.paper.proofs.Counts.{data_words-length}
-use Rattle.paper.proofs.Alike.{zeros_length, bare_frame}
+use Rattle.paper.proofs.Alike.{bare_frame}
 use Rattle.std.proofs.lemmas.Bool.Decides.{nat_tests}
 use Rattle.std.proofs.lemmas.Grind.{elements}
+use lib.ListN.{length-replicate}
 
 -- Word i of frames is of the first, or of the others.
 word_of : (f : Frame) (fs : List Frame) (i n : ℕ) → length (data_words f.bytes) ≡ n
@@ -27,7 +28,7 @@ word_of f fs i n e = grind (arith, nat_tests, elements)
 
 -- Frames that are alike have as many bytes.
 bytes_alike : (f g : Frame) → bare_frame f ≡ bare_frame g → length f.bytes ≡ length g.bytes
-bytes_alike f g e = sym (zeros_length f.bytes) ∙ ap (λ (x : Frame). length x.bytes) e ∙ zeros_length g.bytes
+bytes_alike f g e = simp length-replicate at (ap (λ (x : Frame). length x.bytes) e)
 
 -- Of frames that are alike, word i is equal where it is of frames with equal bytes.
 pub word_alike : (fs gs : List Frame) (i : ℕ) → map bare_frame fs ≡ map bare_frame gs → frame_at i fs ≡ frame_at i gs

@@ -132,10 +132,9 @@ rule_drops d rule r address = grind arith
 -- A setting does not.
 setting_drops : (d : ℕ) (s : Setting) (r : Registers) (head : List ℕ) → passes_setting s (with_drops d r) head ≡ passes_setting s r head
 unfolding passes_setting
-setting_drops d None r head = refl
-setting_drops d (Some rules) r head = rule_drops d (if is_group head then rules.group else rules.individual) r (destination head)
+setting_drops d s r head = grind (arith, rule_drops)
 
 -- The filter does not.
 pub passes_drops : (d : ℕ) (r : Registers) (head : List ℕ) → passes (with_drops d r) head ≡ passes r head
 unfolding passes
-passes_drops d r head = rw (setting_drops d (setting_of r.maccr) r head)
+passes_drops d r head = grind (arith, setting_drops)

@@ -66,33 +66,28 @@ module _ {l : Ledger} {w : World} where
   pub kept_rx_data_read : Kept l w → KeptBy RxDataRead l w
   unfolding decide note entered put taken
   kept_rx_data_read h =
-      kept_by h RxDataRead (kept_oldest h RxDataRead RxData _ _ _ (λ _. refl) (λ some. each _ tt tt some tt)
-      (each _ (refl, refl) (refl, refl) (refl, refl) (refl, refl)))
+      kept_by h RxDataRead (kept_oldest h RxDataRead RxData _ _ _ (λ _. refl) (λ some. each _ tt tt some tt) (λ f. grind arith))
 
   -- Popping an RX status.
   pub kept_rx_status_pop : Kept l w → KeptBy RxStatusPop l w
   unfolding decide note entered put taken
   kept_rx_status_pop h =
-      kept_by h RxStatusPop (kept_oldest h RxStatusPop RxStatus _ _ _ (λ _. refl) (λ some. each _ tt tt tt some)
-      (each _ (refl, refl) (refl, refl) (refl, refl) (refl, refl)))
+      kept_by h RxStatusPop (kept_oldest h RxStatusPop RxStatus _ _ _ (λ _. refl) (λ some. each _ tt tt tt some) (λ f. grind arith))
 
   -- Peeking at an RX status.
   pub kept_rx_status_peek : Kept l w → KeptBy RxStatusPeek l w
   unfolding decide note entered put taken
   kept_rx_status_peek h =
-      kept_by h RxStatusPeek (kept_oldest h RxStatusPeek RxStatus _ _ _ (λ _. refl) (λ _. each _ tt tt tt tt)
-      (each _ (refl, refl) (refl, refl) (refl, refl) (refl, refl)))
+      kept_by h RxStatusPeek (kept_oldest h RxStatusPeek RxStatus _ _ _ (λ _. refl) (λ _. each _ tt tt tt tt) (λ f. grind arith))
 
   -- Popping a TX status.
   pub kept_tx_status_pop : Kept l w → KeptBy TxStatusPop l w
   unfolding decide note entered put taken
   kept_tx_status_pop h =
-      kept_by h TxStatusPop (kept_oldest h TxStatusPop TxStatus _ _ _ (λ _. refl) (λ some. each _ tt some tt tt)
-      (each _ (refl, refl) (refl, refl) (refl, refl) (refl, refl)))
+      kept_by h TxStatusPop (kept_oldest h TxStatusPop TxStatus _ _ _ (λ _. refl) (λ some. each _ tt some tt tt) (λ f. grind arith))
 
   -- Peeking at a TX status.
   pub kept_tx_status_peek : Kept l w → KeptBy TxStatusPeek l w
   unfolding decide note entered put taken
   kept_tx_status_peek h =
-      kept_by h TxStatusPeek (kept_oldest h TxStatusPeek TxStatus _ _ _ (λ _. refl) (λ _. each _ tt tt tt tt)
-      (each _ (refl, refl) (refl, refl) (refl, refl) (refl, refl)))
+      kept_by h TxStatusPeek (kept_oldest h TxStatusPeek TxStatus _ _ _ (λ _. refl) (λ _. each _ tt tt tt tt) (λ f. grind arith))

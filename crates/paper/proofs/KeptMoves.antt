@@ -85,7 +85,7 @@ module _ {l : Ledger} {w : World} (h : Kept l w) where
   unfolding put taken
   kept_registers a r d good same none control =
       kept_beside a r d l.received l.confirmed good same control (unchanged_fits a w none)
-      (rw none (each _ (refl, refl) (refl, refl) (refl, refl) (refl, refl)))
+      (rw none (λ f. grind arith))
 
   -- The oldest word of a FIFO is read, and perhaps taken.
   pub kept_oldest : (c : Call) (f : Fifo) (changes : Four Change) (x : Received) (y : Confirmed)

@@ -79,7 +79,7 @@ module _ {l : Ledger} {w : World} where
   unfolding decide note entered put taken
   kept_dump_tx_status h =
       kept_by h DumpTxStatus (kept_beside h _ _ _ _ _ h.legal.registers refl refl (each _ tt tt tt tt)
-      (each _ (refl, refl) (refl, refl) (refl, refl) (refl, refl)))
+      (λ f. grind arith))
 
   -- Dumping RX.
   pub kept_dump_rx : Kept l w → KeptBy DumpRx l w
@@ -87,7 +87,7 @@ module _ {l : Ledger} {w : World} where
   kept_dump_rx h =
       kept_by h DumpRx (
       kept_unless h DumpRx (not (may_dump_rx l.registers)) NotNow _ refl λ _.
-      kept_beside h _ _ _ _ _ h.legal.registers refl refl (each _ tt tt tt tt) (each _ (refl, refl) (refl, refl) (refl, refl) (refl, refl)))
+      kept_beside h _ _ _ _ _ h.legal.registers refl refl (each _ tt tt tt tt) (λ f. grind arith))
 
   -- Dumping TX data.
   pub kept_dump_tx_data : Kept l w → KeptBy DumpTxData l w
