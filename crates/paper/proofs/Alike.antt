@@ -4,7 +4,6 @@
 --   shared                what a ledger and its bare one have in common, ledgers that are alike have in common
 --   frames_twice, buffers_twice, packets_twice, taking_twice    what is bare stays so
 --   bare_control, bare_taken, bare_length, bare_txstatus, bare_rxstatus    a bare ledger implies the same control state, levels and statuses
---   if_alike              choices that are alike branch by branch are alike
 -- Assumes nothing.
 use Rattle.std.specs.Prelude.{if◌then◌else◌}
 use mathlib.Core.Path.{◌≡◌, refl, sym, ap, ◌∙◌}
@@ -132,8 +131,7 @@ later_bare (x ∷ xs) = simp (length-append, stored_bare x.a x.words, later_bare
 -- Nor does that for all buffers of a packet.
 first_bare : (b : ℕ) (xs : List Written) → length (laid_first b (map bare_buffer xs)) ≡ length (laid_first b xs)
 unfolding laid_first
-first_bare b [] = refl
-first_bare b (x ∷ xs) = simp (length-append, stored_bare x.a x.words, later_bare xs)
+first_bare b xs = grind (arith, length-append, stored_bare, later_bare)
 
 -- Nor does that for packets.
 all_bare : (ps : List Whole) → length (laid_all (map bare_packet ps)) ≡ length (laid_all ps)
@@ -155,10 +153,7 @@ so_far_bare (Filling b xs a words) =
 -- The words taken do not depend on content.
 pub bare_taken : (f : Fifo) (l : Ledger) → taken f (bare l) ≡ taken f l
 unfolding taken bare
-bare_taken TxData l = rw (take-map bare_packet l.wrote.sent l.wrote.packets) (all_bare (take l.wrote.sent l.wrote.packets))
-bare_taken TxStatus l = refl
-bare_taken RxData l = refl
-bare_taken RxStatus l = refl
+bare_taken f l = grind (arith, take-map, all_bare)
 
 -- Nor do the statuses put into TX status.
 pub bare_txstatus : (l : Ledger) → put TxStatus (bare l) ≡ put TxStatus l

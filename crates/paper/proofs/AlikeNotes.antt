@@ -35,11 +35,7 @@ filled_bare b xs a ws vs x e =
 -- A word more in a ledger and in its bare one.
 word_bare : (w : ℕ) (t : Taking) (x : Wrote) → bare_wrote (wrote_word w t x) ≡ bare_wrote (wrote_word w (bare_taking t) (bare_wrote x))
 unfolding wrote_word bare_taking
-word_bare w Nothing x = simp bare-laws
-word_bare w (FirstA a) x = simp bare-laws
-word_bare w (Between b xs) x = simp bare-laws
-word_bare w (LaterA b xs a) x = simp bare-laws
-word_bare w (Filling b xs a words) x = filled_bare b xs a (words ++ (w ∷ [])) (zeros words ++ (w ∷ [])) x (simp (length-append, length-replicate))
+word_bare w t x = grind (arith, bare-laws, filled_bare, length-append, length-replicate)
 
 -- ---- One more call
 
@@ -53,25 +49,7 @@ next_bare (suc k) (p ∷ ps) = next_bare k ps
 -- An accepted call noted in a ledger and in its bare one.
 entered_bare : (c : Call) (v : ℕ) (l : Ledger) → Alike (entered c v l) (entered c v (bare l))
 unfolding entered bare
-entered_bare Reset v l = refl
-entered_bare (MacWrite register x) v l = simp bare-laws
-entered_bare (MacRead register) v l = simp bare-laws
-entered_bare (SetSplit n) v l = refl
-entered_bare Split v l = simp bare-laws
-entered_bare RxFifoInf v l = simp bare-laws
-entered_bare TxFifoInf v l = simp bare-laws
-entered_bare RxDrop v l = simp bare-laws
-entered_bare DumpTxData v l = simp bare-laws
-entered_bare DumpTxStatus v l = simp bare-laws
-entered_bare DumpRx v l = simp bare-laws
-entered_bare (Arrive frame flags) v l = grind (arith, bare-laws)
-entered_bare RxDataRead v l = simp bare-laws
-entered_bare RxStatusPop v l = simp bare-laws
-entered_bare RxStatusPeek v l = simp bare-laws
-entered_bare (TxWord word) v l = simp (bare-laws, word_bare word l.wrote.taking l.wrote)
-entered_bare (Send outcome out) v l = simp (bare-laws, next_bare)
-entered_bare TxStatusPop v l = simp bare-laws
-entered_bare TxStatusPeek v l = simp bare-laws
+entered_bare c v l = grind (arith, bare-laws, word_bare, next_bare)
 
 -- An answer noted in a ledger and in its bare one.
 note_bare : (c : Call) (a : Answer) (l : Ledger) → Alike (note c a l) (note c a (bare l))

@@ -36,9 +36,7 @@ data_words-length frame = series-length (λ k. word_at frame (4 * k)) 0 (words_f
 -- Data word i is the word of the four bytes from byte 4 i on.
 pub data_words_at : (frame : List ℕ) (i : ℕ) → i < words_for (length frame) → get_or (data_words frame) i 0 ≡ word_at frame (4 * i)
 unfolding data_words
-data_words_at frame i h =
-    series-get_or (λ k. word_at frame (4 * k)) 0 (words_for (length frame)) i 0 h
-    ∙ ap (λ k. word_at frame (4 * k)) (omega arith)
+data_words_at frame i h = grind (arith, series-get_or)
 
 -- Some bytes take at least one word.
 pub words_for_pos : (len : ℕ) → 0 < len → 0 < words_for len
@@ -178,8 +176,7 @@ frame_fits b bytes good h = rw (frame_length b bytes h) (grind (arith, nat_tests
 
 -- A buffer whose payload is stored whole has as many bytes as its A says.
 pub buffer_bytes-length : (x : Buffer) → length x.payload ≡ stored_words x.a → length (buffer_bytes x) ≡ buffer_size x.a
-buffer_bytes-length x h =
-    simp (length-take, length-drop, bytes_of-length, h) (omega arith)
+buffer_bytes-length x h = grind (arith, length-take, length-drop, bytes_of-length)
 
 -- the payload of each buffer is stored whole
 abbrev pub AllStored : List Buffer → Type 0

@@ -52,18 +52,7 @@ good_either is_open a good = grind (arith, nat_tests)
 -- What the port expects is in range.
 pub taking_in_range : (t : Taking) → GoodTaking t → expect_in_range (expect_of t) ≡ true
 unfolding GoodTaking expect_of expect_in_range
-taking_in_range Nothing g = refl
-taking_in_range (FirstA a) g = rw g
-taking_in_range (Between b xs) (o, behind) = rw (o.long, open_within o)
-taking_in_range (LaterA b xs a) (o, behind, good) = rw (good, o.long, open_within o)
-taking_in_range (Filling b xs a words) (o, next, room) =
-    rw (
-      o.long,
-      le-leb _ _ (agree_within a b (sizes_of xs) next.agree),
-      good_either _ a next.good,
-      le-leb 1 (host_words a - length words) (omega arith),
-      le-leb (host_words a - length words) (host_words a) (omega arith),
-    )
+taking_in_range t g = grind (arith, nat_tests, open_within, agree_within, good_either)
 
 -- ---- The whole packets
 

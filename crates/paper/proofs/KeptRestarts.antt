@@ -26,6 +26,7 @@ use Rattle.paper.proofs.Fifos.{each}
 use Rattle.paper.proofs.KeptMoves.{KeptBy, kept_by, kept_unless, kept_beside}
 use Rattle.paper.proofs.KeptRange.{whole_held}
 use Rattle.std.proofs.Common.{rules}
+use Rattle.paper.proofs.Kept.{kept_held}
 
 -- The registers of the fresh state are ones that a write accepts.
 fresh_good : good_registers fresh_registers ≡ true
@@ -41,13 +42,7 @@ none_legal r d x y good = record { registers = good; packets = tt; taking = tt; 
 -- Where TX data is empty, every packet is sent.
 all_sent : {l : Ledger} {w : World} → Kept l w → length (waits w).txdata ≡ 0 → length l.wrote.packets - l.wrote.sent ≡ 0
 unfolding put taken
-all_sent {l} {w} h e =
-    let none : length (drop (taken TxData l) (put TxData l)) ≡ 0 = sym (ap length (h.queues TxData)) ∙ e in
-    omega (
-      arith,
-      simp (length-drop, length-append) at none,
-      whole_held l.wrote.sent l.wrote.packets h.legal.packets,
-    )
+all_sent {l} {w} h e = grind (arith, kept_held h TxData, length-append, whole_held l.wrote.sent l.wrote.packets h.legal.packets)
 
 -- A port that expects a first A has no packet open.
 first_closed : (t : Taking) → expects_first (expect_of t) ≡ true → expect_of t ≡ CommandA Closed
@@ -56,9 +51,7 @@ first_closed t e = grind arith
 
 -- An idle port with every packet sent is the fresh one.
 idle_port : (x : Wrote) → is_idle (port_of x) ≡ true → length x.packets - x.sent ≡ 0 → port_of x ≡ fresh_port
-idle_port x idle none =
-    let parts = simp and-eq-true_iff at idle in
-    rw (first_closed x.taking parts.0, not-true x.failed parts.1, none)
+idle_port x idle none = grind (arith, first_closed)
 
 -- Where n may be set, the port is the fresh one.
 resized_port : {l : Ledger} {w : World} → Kept l w → may_resize (control_of l).registers (port_of l.wrote) (levels (waits w)) ≡ true

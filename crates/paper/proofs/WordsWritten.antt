@@ -40,9 +40,7 @@ stored_from a i (w ∷ ws) = stored_word a i w ++ stored_from a (suc i) ws
 
 -- One more payload word, stored or not.
 kept_word : (a : ℕ) (words : List ℕ) (w : ℕ) → kept_of a (words ++ (w ∷ [])) ≡ kept_of a words ++ stored_word a (length words) w
-kept_word a words w =
-    cond_both (is_stored a (length words)) _ _ (λ new. kept_of a (words ++ (w ∷ [])) ≡ kept_of a words ++ new)
-    (λ e. kept_stored a words w e) (λ e. kept_thrown a words w e ∙ sym (append-nil _))
+kept_word a words w = grind (arith, kept_stored, kept_thrown, append-nil)
 
 -- Payload words behind others.
 kept_from : (a : ℕ) (words ws : List ℕ) → kept_of a (words ++ ws) ≡ kept_of a words ++ stored_from a (length words) ws
