@@ -41,11 +41,4 @@ word_alike (f ∷ fs) (g ∷ gs) i e h =
     let first : bare_frame f ≡ bare_frame g = cc in
     let n : ℕ = length (data_words g.bytes) in
     let same : length (data_words f.bytes) ≡ n = simp (data_words-length, bytes_alike f g first) in
-    rw (word_of f fs i n same, word_of g gs i n refl) (by_cases n (ltb i n) (word_alike fs gs (i - n) (cc)) (rw same at h))
-  where
-    by_cases : (n : ℕ) (t : Bool) → (frame_at (i - n) fs ≡ frame_at (i - n) gs → get_or (all_words fs) (i - n) 0 ≡ get_or (all_words gs) (i - n) 0)
-        → (if t then f.bytes else frame_at (i - n) fs) ≡ (if t then g.bytes else frame_at (i - n) gs)
-        → (if t then get_or (data_words f.bytes) i 0 else get_or (all_words fs) (i - n) 0)
-        ≡ (if t then get_or (data_words g.bytes) i 0 else get_or (all_words gs) (i - n) 0)
-    by_cases n true later e = rw e
-    by_cases n false later e = later e
+    grind (arith, same, word_of f fs i n same, word_of g gs i n refl, word_alike fs gs (i - n) (cc))

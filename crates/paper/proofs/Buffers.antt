@@ -67,31 +67,11 @@ kept_none a = rw (drop-nil, take-nil)
 
 -- A payload word that is stored goes behind those stored.
 pub kept_stored : (a : ℕ) (words : List ℕ) (w : ℕ) → is_stored a (length words) ≡ true → kept_of a (words ++ (w ∷ [])) ≡ kept_of a words ++ (w ∷ [])
-kept_stored a words w e =
-    let from : front_words a ≤ length words = grind (arith, nat_tests) in
-    let below : length words < front_words a + stored_words a = grind (arith, nat_tests) in
-    rw (
-      drop-append-le (front_words a) words (w ∷ []) from,
-      take_all (stored_words a) (drop (front_words a) words ++ (w ∷ [])) (simp (length-append, length-drop) (omega arith)),
-      take_all (stored_words a) (drop (front_words a) words) (simp length-drop (omega arith)),
-    )
+kept_stored a words w e = grind (arith, nat_tests, drop-append-le, take_all, length-drop, length-append)
 
 -- A payload word that is thrown away changes nothing.
 pub kept_thrown : (a : ℕ) (words : List ℕ) (w : ℕ) → is_stored a (length words) ≡ false → kept_of a (words ++ (w ∷ [])) ≡ kept_of a words
-kept_thrown a words w e = in_front (leb (front_words a) (length words)) refl e
-  where
-    in_front : (behind : Bool) → leb (front_words a) (length words) ≡ behind → (behind && ltb (length words) (front_words a + stored_words a)) ≡ false
-        → kept_of a (words ++ (w ∷ [])) ≡ kept_of a words
-    in_front true b f =
-        let from : front_words a ≤ length words = leb-true _ _ b in
-        let past : front_words a + stored_words a ≤ length words = ltb-false _ _ f in
-        rw (drop-append-le (front_words a) words (w ∷ []) from) (take-append-le (stored_words a) _ _ (simp length-drop (omega arith)))
-    in_front false b f =
-        let short : length words < front_words a = leb-false _ _ b in
-        rw (
-          drop_of_length-le (words ++ (w ∷ [])) {i = front_words a} (simp length-append (omega arith)),
-          drop_of_length-le words {i = front_words a} (omega arith),
-        )
+kept_thrown a words w e = grind (arith, nat_tests, drop-append-le, take-append-le, drop_of_length-le, length-drop, length-append)
 
 -- ---- the words in TX data
 

@@ -50,21 +50,11 @@ apart f g n d low high = grind arith
 
 -- places of two parts that do not meet are two places
 pub apart_places : {b s b' s' : ℕ} → Apart b s b' s' → 0 < s → 0 < s' → (i j : ℕ) → place b' s' j ≢ place b s i
-apart_places (before l) p p' i j = omega (arith, mod-lt i p, mod-lt j p')
-apart_places (behind l) p p' i j = omega (arith, mod-lt i p, mod-lt j p')
+apart_places a p p' i j = grind (arith, mod-lt)
 
 -- two numbers that differ by less than s differ modulo s
 mods_differ : (s i j : ℕ) → i < j → j < i + s → j % s ≢ i % s
-mods_differ s i j h l e =
-    let x : ℕ = i % s + (j - i) in
-    let back : x % s ≡ i % s = mod-add-mod i s (j - i) ∙ ap (λ (y : ℕ). y % s) (omega arith) ∙ e in
-    go (ltb x s) refl (mod-lt i (omega arith)) back
-  where
-    go : (t : Bool) → ltb (i % s + (j - i)) s ≡ t → i % s < s → (i % s + (j - i)) % s ≡ i % s → ⊥
-    go true t low back = omega (arith, sym (mod-eq_of_lt (ltb-true _ _ t)) ∙ back)
-    go false t low back =
-        let more : s ≤ i % s + (j - i) = ltb-false _ _ t in
-        omega (arith, sym (mod-eq_of_lt (omega arith)) ∙ sym (mod-eq-sub-mod more) ∙ back)
+mods_differ s i j h l e = grind (arith, mod-add-mod, mod-lt)
 
 -- two words whose numbers differ by less than the size are at two places
 pub places_differ : (b s i j : ℕ) → i < j → j < i + s → place b s i ≢ place b s j
@@ -162,10 +152,7 @@ change_length b s c r m = grind (arith, put_all-length)
 -- a change that fits leaves the ring in range
 pub change_in_ring : (s : ℕ) (c : Change) (r : Ring) → InRing s r → Fits s c r → InRing s (ring_after s c r)
 unfolding ring_after
-change_in_ring s keeps r o t = o
-change_in_ring s (puts ws) r o t = record { at_lt = o.at_lt; count_le = t }
-change_in_ring s (takes k) r o t = record { at_lt = mod-lt (r.at + k) (omega arith); count_le = omega arith }
-change_in_ring s restarts r o t = omega arith
+change_in_ring s c r o t = grind (arith, mod-lt)
 
 -- a put that fits leaves the words that waited
 put_all_old : (b s : ℕ) (ws : List ℕ) (r : Ring) (m : List ℕ) → r.count + length ws ≤ s

@@ -26,6 +26,7 @@ use Rattle.paper.proofs.Kept.{Fine, Ended, GoodWhole}
 use Rattle.std.proofs.lemmas.List.{drop-take}
 use lib.ListN.{length-take}
 use Prim.Native.Nat.{◌-◌}
+use Rattle.std.proofs.lemmas.Bool.Decides.{nat_tests}
 
 -- a written buffer as it lies in TX data
 abbrev pub buffer_of : Written → Buffer
@@ -98,11 +99,8 @@ buffers_words (x ∷ xs) = simp length-append (omega (arith, buffers_words xs))
 -- Buffers that end a packet bring its bytes to its length.
 ended_bytes : {is_open : Bool} {b sizes : ℕ} {xs : List Written} → Ended is_open b sizes xs → sizes + length (buffers_bytes xs) ≡ packet_length b
 unfolding buffers_bytes sizes_agree
-ended_bytes {b = b} {sizes = sizes} (last {x = x} fine ends) =
-    let whole : sizes + buffer_size x.a ≡ packet_length b = eqb-true _ _ (rw ends at fine.begun.agree) in
-    rw (length-append (written_bytes x) [], written_length x fine.full) (omega arith)
-ended_bytes (more {x = x} {xs = xs} fine goes others) =
-    rw (length-append (written_bytes x) (buffers_bytes xs), written_length x fine.full) (omega (arith, ended_bytes others))
+ended_bytes (last fine ends) = grind (arith, nat_tests, length-append, written_length)
+ended_bytes (more fine goes others) = grind (arith, length-append, written_length, ended_bytes others)
 
 -- One buffer is read back, and then what lies behind it.
 buffer_read : (most b sizes : ℕ) (x : Written) (q : List ℕ) → sizes_agree x.a b sizes ≡ true → length x.words ≡ host_words x.a
@@ -139,7 +137,7 @@ module _ (b : ℕ) (x : Written) (xs : List Written) (fine : Fine false b 0 x) w
   -- The words of the buffer and of those behind it.
   first_length : length (laid_first b (x ∷ xs)) ≡ 2 + stored_words x.a + length (laid_later xs)
   unfolding laid_first
-  first_length = rw (length-append (kept_of x.a x.words) (laid_later xs), kept_length x.a x.words fine.full) (omega arith)
+  first_length = grind (arith, length-append, kept_length)
 
   -- They are freed when the packet is sent.
   first_freed : freed (map buffer_of (x ∷ xs)) ≡ length (laid_first b (x ∷ xs))
