@@ -5,14 +5,12 @@
 --   frames_twice, buffers_twice, packets_twice, taking_twice    what is bare stays so
 --   bare_control, bare_taken, bare_length, bare_txstatus, bare_rxstatus    a bare ledger implies the same control state, levels and statuses
 -- Assumes nothing.
-use Rattle.std.specs.Prelude.{if◌then◌else◌}
 use mathlib.Core.Path.{◌≡◌, refl, sym, ap, ◌∙◌}
-use mathlib.Core.Bool.{Bool, true, false}
 use mathlib.Core.List.{List, [], ◌∷◌, ◌++◌, map, map-map, map-append}
-use Prim.Native.Nat.{ℕ, zero, suc}
-use lib.ListN.{length, take, replicate, length-append, length-take, length-drop, length-replicate, length-map}
+use Prim.Native.Nat.{ℕ}
+use lib.ListN.{length, replicate, length-append, length-take, length-drop, length-replicate, length-map}
 use Rattle.paper.specs.declared.Fifo.{Fifo}
-use Rattle.paper.specs.declared.Fifo.TheVariants.{TxData, TxStatus, RxData, RxStatus}
+use Rattle.paper.specs.declared.Fifo.TheVariants.{TxStatus, RxStatus}
 use Rattle.paper.specs.Ledger.{Frame, Written, Whole, Taking, Nothing, FirstA, Between, LaterA, Filling, Received, Wrote, Ledger, kept_of, laid_later, laid_first, laid_all, laid_so_far, all_words, put, taken}
 use Rattle.paper.proofs.Counts.{data_words-length}
 use Rattle.paper.proofs.Kept.{sizes_of, expect_of, control_of}

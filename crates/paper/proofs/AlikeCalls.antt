@@ -10,7 +10,7 @@ use native.Mathlib.Nat.{add-zero}
 use native.Mathlib.Omega.{arith}
 use lib.Dec.{eqb}
 use mathlib.Core.Bool.{false}
-use lib.ListN.{length, get_or, length-drop}
+use lib.ListN.{length, get_or}
 use lib.Seq.{get_or-drop}
 use borrow.Author.Tests.{eqb-false}
 use Rattle.paper.specs.declared.Control.{Control}

@@ -8,16 +8,15 @@ use native.Mathlib.Omega.{arith}
 use mathlib.Core.Path.{◌≡◌, refl, sym, ap, ◌∙◌}
 use mathlib.Core.List.{List, [], ◌∷◌, ◌++◌, map, map-append}
 use Prim.Native.Nat.{ℕ, zero, suc}
-use lib.Dec.{eqb}
 use lib.ListN.{length, take, drop, length-append}
 use Rattle.paper.specs.Answers.{Answer}
 use Rattle.paper.specs.declared.Packet.{Packet}
 use Rattle.paper.specs.declared.Expect.TheVariants.{Payload}
 use Rattle.paper.specs.Checksum.{fcs_fits}
-use Rattle.paper.specs.Calls.{Call, Reset, MacWrite, MacRead, SetSplit, Split, RxFifoInf, TxFifoInf, RxDrop, DumpTxData, DumpTxStatus, DumpRx, Arrive, RxDataRead, RxStatusPop, RxStatusPeek, TxWord, Send, TxStatusPop, TxStatusPeek}
-use Rattle.paper.specs.Ledger.{Written, Whole, Taking, Nothing, FirstA, Between, LaterA, Filling, Wrote, Ledger, filled, wrote_word, next_b, entered, sets_error, note}
+use Rattle.paper.specs.Calls.{Call, Arrive, TxWord}
+use Rattle.paper.specs.Ledger.{Written, Whole, Taking, Nothing, FirstA, Between, LaterA, Filling, Wrote, Ledger, filled, wrote_word, next_b, entered, note}
 use Rattle.paper.proofs.Kept.{expect_of}
-use Rattle.paper.proofs.Alike.{zeros, bare_buffer, bare_packet, bare_taking, bare_wrote, bare, Alike, frames_twice, buffers_twice, packets_twice, taking_twice}
+use Rattle.paper.proofs.Alike.{bare_buffer, bare_packet, bare_taking, bare_wrote, bare, Alike, frames_twice, buffers_twice, packets_twice, taking_twice}
 use lib.ListN.{length-replicate}
 
 -- what is bare stays so

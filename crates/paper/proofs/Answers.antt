@@ -4,15 +4,11 @@
 --   said_one_to_one       two answers said alike are the same
 --   arrival_one_to_one    two arrivals answered alike are the same
 -- Assumes nothing.
-use Rattle.std.specs.Prelude.{if◌then◌else◌, Err, Ok}
-use mathlib.Core.Path.{◌≡◌, refl, sym, ap, ◌∙◌}
-use Prim.Native.Nat.{ℕ, ◌≤◌}
+use mathlib.Core.Path.{◌≡◌}
+use Prim.Native.Nat.{◌≤◌}
 use native.Mathlib.Omega.{arith}
-use lib.Dec.{eqb}
 use Rattle.paper.specs.declared.Refusal.{Refusal}
-use Rattle.paper.specs.declared.Refusal.TheVariants.{ArrivingLength, OtherBits, NoRegister, BadValue, NotNow, ErrorStands, BadCommand, Disagrees, DataFull, SendingOff, NothingThere, StatusFull, OutShort, MemoryLength, OutOfRange}
 use Rattle.paper.specs.Answers.{Answer}
-use Rattle.paper.specs.declared.Arrival.TheVariants.{Ignored, Discarded, Filtered, Dropped, Stored}
 use Rattle.paper.specs.Arrivals.{Verdict, arrival_answer}
 use Rattle.paper.specs.Refusals.{number, said}
 

@@ -7,7 +7,7 @@
 --   arrives_fits                  what an arrival puts fits
 --   passes_drops                  the filter does not look at RX_DROP
 -- Assumes nothing.
-use Rattle.std.specs.Prelude.{if◌then◌else◌, Err, None, Ok, Some}
+use Rattle.std.specs.Prelude.{Err, Ok}
 use mathlib.Core.Path.{◌≡◌, refl}
 use mathlib.Core.Logic.{◌≢◌}
 use mathlib.Core.Bool.{Bool, true, false, not, ◌&&◌, ◌||◌}
@@ -19,13 +19,12 @@ use lib.ListN.{length}
 use borrow.Author.Tests.{not-false}
 use Rattle.paper.specs.declared.Registers.{Registers}
 use Rattle.paper.specs.declared.Rule.{Rule}
-use Rattle.paper.specs.declared.Rule.TheVariants.{Equal, NotEqual, Hash, Pass}
 use Rattle.paper.specs.declared.Control.{Control}
 use Rattle.paper.specs.declared.Arrival.TheVariants.{Ignored, Discarded, Filtered, Dropped, Stored}
 use Rattle.paper.specs.declared.Fifo.TheVariants.{RxData, RxStatus}
 use Rattle.paper.specs.Memory.{size}
-use Rattle.paper.specs.Registers.{Setting, setting_of, with_drops}
-use Rattle.paper.specs.Filter.{passes_rule, passes_setting, passes, destination, is_group}
+use Rattle.paper.specs.Registers.{Setting, with_drops}
+use Rattle.paper.specs.Filter.{passes_rule, passes_setting, passes}
 use Rattle.paper.specs.Status.{Look, look}
 use Rattle.paper.specs.Arrivals.{Verdict, words_for, data_words, room, by_room, arrival, arrival_answer}
 use Rattle.paper.specs.Acts.{unchanged, arrives}

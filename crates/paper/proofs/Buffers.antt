@@ -5,16 +5,14 @@
 --   laid_begins, laid_grows, laid_all-snoc, all_good_snoc    the words in TX data after a later A, after a payload word, after a whole packet
 -- Assumes nothing.
 use mathlib.Core.Path.{◌≡◌, refl, sym, ap, ◌∙◌}
-use mathlib.Core.Bool.{Bool, true, false, ◌&&◌}
+use mathlib.Core.Bool.{Bool, true, false}
 use mathlib.Core.List.{List, [], ◌∷◌, ◌++◌, append_assoc, append-nil}
-use Prim.Native.Nat.{ℕ, ◌+◌, ◌≤◌, ◌<◌}
+use Prim.Native.Nat.{ℕ, ◌+◌}
 use native.Mathlib.Nat.{add_assoc, add-zero, zero-add}
 use native.Mathlib.Omega.{arith}
-use lib.Dec.{leb, ltb}
-use lib.ListN.{length, drop, length-append, length-drop, drop_of_length-le}
+use lib.ListN.{length, length-append, length-drop, drop_of_length-le}
 use lib.Seq.{take_all, take-nil, drop-nil, take-append-le, drop-append-le}
-use borrow.Author.Tests.{leb-true, ltb-false, leb-false}
-use Rattle.paper.specs.Transmission.{buffer_size, is_last, front_words, stored_words, is_stored}
+use Rattle.paper.specs.Transmission.{buffer_size, is_last, is_stored}
 use Rattle.paper.specs.Ledger.{Written, Whole, kept_of, laid_later, laid_first, laid, laid_all}
 use Rattle.paper.proofs.Kept.{sizes_of, Fine, Run, Ended, GoodWhole, AllGood, open_behind}
 use Rattle.std.proofs.lemmas.Bool.Decides.{nat_tests}

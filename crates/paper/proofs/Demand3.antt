@@ -3,7 +3,7 @@
 --   allowed_met           every pair of calls that is allowed gives this
 --   demand_3, support_log    the theorems
 -- Assumes nothing.
-use Rattle.std.specs.Prelude.{Err, Ok}
+use Rattle.std.specs.Prelude.{Err}
 use native.Mathlib.Omega.{arith}
 use mathlib.Core.Path.{◌≡◌, refl, sym, ap, ap₂, subst, ◌∙◌}
 use mathlib.Core.Bool.{Bool, true}
@@ -22,7 +22,7 @@ use Rattle.paper.specs.Acts.{arrive}
 use Rattle.paper.specs.Machine.{World, decide, waits, levels, fresh, answer}
 use Rattle.paper.specs.Ledger.{Ledger, begun, entered, note}
 use Rattle.paper.specs.Runs.{Lent}
-use Rattle.paper.specs.Twins.{Payload, counted, refused, Allowed, same, payload, content, Unheard, ignored, discarded, filtered, Twins, stop, both, left, right, blank_word, blank, Agree, Agrees, Demand3, logged, host_log, SupportLog}
+use Rattle.paper.specs.Twins.{Payload, counted, refused, Allowed, same, payload, content, Unheard, Twins, stop, both, left, right, blank_word, blank, Agree, Agrees, Demand3, logged, host_log, SupportLog}
 use Rattle.paper.proofs.Kept.{port_of, control_of, Kept, kept_fresh}
 use Rattle.paper.proofs.KeptRange.{kept_answer}
 use Rattle.paper.proofs.ArrivalLines.{arrives_answer}

@@ -26,7 +26,7 @@ use Rattle.paper.specs.Runs.{Lent, Reading, arrives as arrival, reads, pops, pee
 use Rattle.paper.specs.Promises.{KeepsRanges}
 use Rattle.paper.proofs.Memory.{Fits}
 use Rattle.paper.specs.Memory.{ring}
-use Rattle.paper.proofs.Rings.{split, Sound, AllFit, apply_sound}
+use Rattle.paper.proofs.Rings.{split, AllFit, apply_sound}
 use Rattle.paper.proofs.Fifos.{each, waits_count}
 use Rattle.paper.proofs.Entry.{Ready, ready, in_range_lem}
 use Rattle.paper.proofs.ArrivalLines.{arrival_says, arrives_fits}

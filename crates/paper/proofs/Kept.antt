@@ -22,7 +22,6 @@ use Rattle.paper.specs.declared.Expect.TheVariants.{CommandA, CommandB, Payload}
 use Rattle.paper.specs.declared.Port.{Port}
 use Rattle.paper.specs.declared.Control.{Control}
 use Rattle.paper.specs.declared.Fifo.{Fifo}
-use Rattle.paper.specs.declared.Fifo.TheVariants.{TxData, TxStatus, RxData, RxStatus}
 use Rattle.paper.specs.Memory.{Change, keeps, puts, takes, restarts, size, of, words_lent}
 use Rattle.paper.specs.Memory.{ring_after, memory_after, waiting_after}
 use Rattle.paper.specs.Registers.{good_registers, with_drops}

@@ -26,7 +26,7 @@ use Rattle.std.proofs.lemmas.Bool.{cond_both}
 use Rattle.paper.proofs.Memory.{Fits}
 use Rattle.paper.specs.Memory.{ring}
 use Rattle.paper.proofs.Rings.{split, AllFit, unchanged_fits, apply_nothing}
-use Rattle.paper.proofs.Fifos.{each, waits_count}
+use Rattle.paper.proofs.Fifos.{waits_count}
 use Rattle.paper.proofs.Kept.{control_of, Kept, Follows, kept_apply}
 use Rattle.paper.proofs.KeptRange.{kept_act}
 

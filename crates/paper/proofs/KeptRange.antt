@@ -15,12 +15,12 @@ use lib.ListN.{length, take, drop, length-append, length-drop, take-append-drop}
 use borrow.Author.Tests.{le-leb, eq-eqb}
 use Rattle.paper.specs.declared.Fifo.TheVariants.{TxData, TxStatus, RxData, RxStatus}
 use Rattle.paper.specs.Registers.{good_maccr, good_registers}
-use Rattle.paper.specs.Transmission.{buffer_size, is_first, packet_length, host_words, good_a, sizes_agree}
+use Rattle.paper.specs.Transmission.{buffer_size, is_first, packet_length, good_a, sizes_agree}
 use Rattle.paper.specs.Refusals.{expect_in_range, in_range}
 use Rattle.paper.specs.Calls.{Call, is_reset}
 use Rattle.paper.specs.Acts.{Act}
 use Rattle.paper.specs.Machine.{World, waits, act, decide, step, answer}
-use Rattle.paper.specs.Ledger.{Written, Whole, Taking, Nothing, FirstA, Between, LaterA, Filling, Ledger, laid_all, laid_so_far, put, taken}
+use Rattle.paper.specs.Ledger.{Written, Whole, Taking, Ledger, laid_all, laid_so_far, put, taken}
 use Rattle.paper.proofs.Entry.{in_range_lem}
 use Rattle.paper.proofs.Kept.{sizes_of, expect_of, control_of, Run, none, more, AllGood, GoodOpen, GoodTaking, Kept, kept_count}
 use Rattle.paper.proofs.Packets.{laid_three}

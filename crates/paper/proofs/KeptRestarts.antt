@@ -2,12 +2,12 @@
 --   kept_reset, kept_set_split, kept_dump_tx_data, kept_dump_tx_status, kept_dump_rx
 --   resized_port          where n may be set, the port is the fresh one
 -- Assumes nothing.
-use mathlib.Core.Path.{◌≡◌, refl, sym, ap, ◌∙◌}
+use mathlib.Core.Path.{◌≡◌, refl, ap}
 use mathlib.Core.Bool.{true, not, and-eq-true_iff}
 use Prim.Native.Nat.{ℕ, ◌-◌}
 use native.Mathlib.Omega.{arith}
-use lib.ListN.{length, drop, length-append, length-drop}
-use borrow.Author.Tests.{eqb-true, not-true, not-false}
+use lib.ListN.{length, length-append}
+use borrow.Author.Tests.{eqb-true, not-false}
 use Rattle.paper.specs.declared.Registers.{Registers}
 use Rattle.paper.specs.declared.Refusal.TheVariants.{BadValue, NotNow}
 use Rattle.paper.specs.declared.Expect.TheVariants.{CommandA}
@@ -18,7 +18,7 @@ use Rattle.paper.specs.Fresh.{fresh_registers, fresh_port}
 use Rattle.paper.specs.Calls.{Reset, SetSplit, DumpTxData, DumpTxStatus, DumpRx}
 use Rattle.paper.specs.Acts.{with_registers, with_port}
 use Rattle.paper.specs.Machine.{World, waits, levels, decide}
-use Rattle.paper.specs.Ledger.{Taking, Nothing, FirstA, Between, LaterA, Filling, Wrote, Received, Confirmed, Ledger, none_wrote}
+use Rattle.paper.specs.Ledger.{Taking, Wrote, Received, Confirmed, Ledger, none_wrote}
 use Rattle.paper.specs.Ledger.{entered, note, laid_all, laid_so_far, all_words, put, taken}
 use Rattle.paper.proofs.Compute.{everything}
 use Rattle.paper.proofs.Kept.{expect_of, port_of, control_of, AllGood, GoodTaking, Legal, Kept, kept_apply, kept_anew}

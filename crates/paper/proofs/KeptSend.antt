@@ -3,9 +3,9 @@
 --   kept_send             a sending keeps the invariant
 --   sends_of              its answer and the frame sent
 -- Assumes nothing.
-use Rattle.std.specs.Prelude.{if◌then◌else◌, Err, Ok}
+use Rattle.std.specs.Prelude.{if◌then◌else◌, Ok}
 use mathlib.Core.Path.{◌≡◌, refl, sym, ap, subst, ◌∙◌}
-use mathlib.Core.Bool.{Bool, true, false, not}
+use mathlib.Core.Bool.{false, not}
 use mathlib.Core.List.{List, [], ◌∷◌}
 use Prim.Native.Nat.{ℕ, ◌+◌, ◌-◌, ◌<◌}
 use native.Mathlib.Omega.{arith}

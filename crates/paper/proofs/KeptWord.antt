@@ -3,7 +3,6 @@
 --   note_word             what the ledger notes of a word written
 --   kept_tx_word          after a word written to the port the world is as the ledger says
 -- Assumes nothing.
-use Rattle.std.specs.Prelude.{Err, Ok}
 use mathlib.Core.Path.{◌≡◌, refl, sym, ap, subst, ◌∙◌}
 use mathlib.Core.Bool.{Bool, true, false, not, ◌&&◌}
 use mathlib.Core.List.{List, [], ◌∷◌, ◌++◌, append-nil}
@@ -27,8 +26,8 @@ use Rattle.paper.specs.Ledger.{Whole, Taking, Nothing, FirstA, Between, LaterA, 
 use Rattle.paper.specs.Ledger.{laid_so_far, wrote_word, with_wrote, entered, note, put, taken}
 use Rattle.std.proofs.lemmas.Bool.{and_parts, cond_both}
 use Rattle.paper.proofs.Counts.{host_words_pos}
-use Rattle.paper.proofs.Memory.{Fits, waiting_length}
-use Rattle.paper.proofs.Rings.{split, waits_of}
+use Rattle.paper.proofs.Memory.{Fits}
+use Rattle.paper.proofs.Rings.{split}
 use Rattle.paper.proofs.Kept.{sizes_of, expect_of, port_of, control_of, Begun, Run, open_behind, GoodOpen, GoodTaking}
 use Rattle.paper.proofs.Kept.{Kept, Follows, Moves, kept_apply}
 use Rattle.paper.proofs.KeptRange.{kept_act}

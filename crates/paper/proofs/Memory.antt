@@ -8,15 +8,12 @@
 -- Assumes nothing.
 use mathlib.Core.Path.{◌≡◌, refl, sym, ◌∙◌, ap}
 use mathlib.Core.Logic.{◌≢◌}
-use mathlib.Core.Bool.{Bool, true, false}
 use mathlib.Core.List.{List, [], ◌∷◌, ◌++◌}
 use Prim.Native.Nat.{ℕ, zero, suc, ◌+◌, ◌-◌, ◌%◌, ◌≤◌, ◌<◌}
-use native.Mathlib.Nat.{add-zero, suc-add, add-suc, mod-lt, mod-eq_of_lt, mod-eq-sub-mod, mod-add-mod}
+use native.Mathlib.Nat.{add-zero, suc-add, add-suc, mod-lt, mod-eq_of_lt, mod-add-mod}
 use native.Mathlib.Omega.{arith}
-use lib.Dec.{ltb}
 use lib.ListN.{length, get_or, set, drop, length-set}
 use lib.Seq.{get_or-set_same, get_or-set_other}
-use borrow.Author.Tests.{ltb-true, ltb-false}
 use Rattle.paper.specs.declared.Ring.{Ring}
 use Rattle.paper.specs.Words.{series}
 use Rattle.paper.specs.declared.Fifo.{Fifo}

@@ -23,7 +23,7 @@ use Rattle.paper.specs.Refusals.{number}
 use Rattle.paper.specs.Calls.{Call, Reset, MacWrite, MacRead, SetSplit, Split, RxFifoInf, TxFifoInf, RxDrop, DumpTxData, DumpTxStatus, DumpRx, Arrive, RxDataRead, RxStatusPop, RxStatusPeek, TxWord, Send, TxStatusPop, TxStatusPeek}
 use Rattle.paper.specs.Acts.{Act, oldest}
 use Rattle.paper.specs.Machine.{World, waits, step, answer, decide}
-use Rattle.paper.specs.Ledger.{Taking, Nothing, FirstA, Between, LaterA, Filling, Ledger, Whole}
+use Rattle.paper.specs.Ledger.{Taking, Ledger, Whole}
 use Rattle.paper.specs.Runs.{sending}
 use Rattle.paper.specs.Promises.{held}
 use Rattle.paper.proofs.ArrivalLines.{arrives_answer}

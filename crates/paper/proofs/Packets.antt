@@ -14,8 +14,8 @@ use native.Mathlib.Omega.{arith}
 use native.Mathlib.Nat.{not-suc-le-zero}
 use lib.Dec.{ltb}
 use lib.ListN.{length, take, drop, length-append, length-drop}
-use lib.Seq.{length-take-le, take_at, drop_at, take-take, take-nil, drop-nil, drop-drop}
-use borrow.Author.Tests.{le-ltb, eqb-true}
+use lib.Seq.{take_at, drop_at, take-take, take-nil, drop-nil, drop-drop}
+use borrow.Author.Tests.{le-ltb}
 use Rattle.paper.specs.Words.{bytes_of}
 use Rattle.paper.specs.Transmission.{offset, buffer_size, host_words, front_words, stored_words, is_last, sizes_agree, packet_length, good_length}
 use Rattle.paper.specs.Sending.{Buffer, Found, behind, from_a, buffers_from, head_of, buffer_bytes, sent_bytes, freed}

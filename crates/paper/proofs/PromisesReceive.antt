@@ -7,13 +7,12 @@
 use Rattle.std.specs.Prelude.{Ok}
 use mathlib.Core.Path.{◌≡◌, refl, sym, ap, subst, ◌∙◌}
 use mathlib.Core.Logic.{◌≢◌, ◌↔◌}
-use mathlib.Core.Bool.{Bool, true, false}
-use mathlib.Core.List.{List, [], ◌∷◌}
+use mathlib.Core.Bool.{true}
+use mathlib.Core.List.{List}
 use Prim.Native.Nat.{ℕ, ◌-◌}
 use native.Mathlib.Omega.{arith}
 use lib.Dec.{leb, eqb}
-use lib.ListN.{length, length-drop}
-use borrow.Author.Tests.{leb-true, leb-false, eq-eqb, ne_eqb}
+use lib.ListN.{length}
 use Rattle.paper.specs.declared.Control.{Control}
 use Rattle.paper.specs.declared.Arrival.TheVariants.{Dropped, Stored}
 use Rattle.paper.specs.declared.Fifo.{Fifo}
@@ -24,9 +23,9 @@ use Rattle.paper.specs.Arrivals.{Verdict, data_words, arrival, arrival_answer}
 use Rattle.paper.specs.Calls.{Arrive, Split, RxFifoInf, TxFifoInf, RxDrop, RxDataRead, RxStatusPop, RxStatusPeek, TxStatusPop, TxStatusPeek}
 use Rattle.paper.specs.Acts.{arrives, oldest}
 use Rattle.paper.specs.Machine.{World, waits, decide, apply, act, step, answer, after}
-use Rattle.paper.specs.Ledger.{Ledger, put, taken}
+use Rattle.paper.specs.Ledger.{Ledger}
 use Rattle.paper.specs.Runs.{next_of, Due, lacks_room}
-use Rattle.paper.specs.Promises.{Keeps, Leaves, ReadsOf, LevelsOf, held}
+use Rattle.paper.specs.Promises.{Keeps, Leaves, ReadsOf, LevelsOf}
 use Rattle.paper.proofs.Rings.{split, apply-waits}
 use Rattle.paper.proofs.Answers.{arrival_one_to_one}
 use Rattle.paper.proofs.ArrivalLines.{SaysAt, arrival_says, arrival_drops, arrives_answer, arrives_split, arrives_still, arrives_fits}

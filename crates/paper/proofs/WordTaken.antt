@@ -4,7 +4,7 @@
 --   word_answer, word_control, word_waits, word_able    the answer, the control state and the words waiting after it; the world after it is in range
 -- Assumes nothing.
 use Rattle.std.specs.Prelude.{Ok}
-use mathlib.Core.Path.{◌≡◌, refl, sym, ap, ◌∙◌}
+use mathlib.Core.Path.{◌≡◌, refl, ap, ◌∙◌}
 use mathlib.Core.Bool.{true}
 use mathlib.Core.List.{List, [], ◌∷◌, ◌++◌, append-nil}
 use Prim.Native.Nat.{ℕ, ◌+◌, ◌*◌, ◌≤◌}
@@ -24,8 +24,8 @@ use Rattle.paper.specs.Refusals.{expect_in_range}
 use Rattle.paper.specs.Calls.{TxWord}
 use Rattle.paper.specs.Acts.{Act, with_port}
 use Rattle.paper.specs.Machine.{World, waits, decide, apply, act, step, answer, after}
-use Rattle.paper.proofs.Memory.{Fits, waiting_length}
-use Rattle.paper.proofs.Rings.{split, Sound, AllFit, waits_of, apply-waits, apply-length}
+use Rattle.paper.proofs.Memory.{Fits}
+use Rattle.paper.proofs.Rings.{split, AllFit, apply-waits, apply-length}
 use Rattle.paper.proofs.Entry.{Ready, in_range_lem}
 use Rattle.paper.proofs.WordsWritten.{clear, Word, thrown, lays}
 use Rattle.paper.proofs.Entry.{ready_sound}

@@ -12,7 +12,7 @@ use mathlib.Core.List.{List, [], ◌∷◌, ◌++◌, append_assoc, append-nil}
 use Prim.Native.Nat.{ℕ, suc, ◌+◌, ◌-◌, ◌≤◌}
 use native.Mathlib.Omega.{arith}
 use lib.ListN.{length, length-append}
-use borrow.Author.Tests.{lt-ltb, eq-eqb}
+use borrow.Author.Tests.{eq-eqb}
 use Rattle.paper.specs.declared.Packet.{Packet}
 use Rattle.paper.specs.declared.Packet.TheVariants.{Closed, Opened, Known}
 use Rattle.paper.specs.declared.Expect.{Expect}
