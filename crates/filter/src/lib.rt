@@ -1,8 +1,8 @@
-// The receive filter: the table of the 32 settings, and what it says of a frame (paper 01, An arriving frame, "Filter"). The frame's head is lent; the filter
-// looks at its first six bytes, the destination.
+// The receive filter: the table of the 32 settings, and what it says of a frame (paper 01, An arriving frame, "Filter"). A frame is lent whole, of any length;
+// the filter looks at its first six bytes, the destination.
 #![tactic(auto)]
 
-ghost use Rattle.std.specs.Prelude.{if◌then◌else◌, ◌≡◌, ◌<◌, get_or, None};
+ghost use Rattle.std.specs.Prelude.{if◌then◌else◌, ◌≡◌, ◌<◌, get_or, take, None};
 ghost use Rattle.paper.specs.Words.{bit, same};
 ghost use Rattle.paper.specs.Registers.{settings, setting_of};
 ghost use Rattle.paper.specs.Filter.{
@@ -17,10 +17,8 @@ ghost use Rattle.paper.specs.Filter.{
 };
 
 use paper::{Registers, Rule, Rules, Setting};
+use words::bytes::byte_at;
 use words::fields::{bit_is_set, setting_number};
-
-// A frame's head: the fourteen bytes of destination, source, and length or type.
-pub type Head = [u8; 14];
 
 // The pairs of rules in 01's table: that for group addresses, then that for individual ones, or one word for both.
 const EQUAL: Setting = Some(Rules {
@@ -103,27 +101,34 @@ fn ours(r: Registers) -> [u8; 6]
     [a, b, c, d, e, f]
 }
 
+// The destination of a frame: its first six bytes, or all that it has.
+fn destination(frame: &[u8]) -> &[u8]
+    ensures { result.now ≡ destination (take 14 frame.now) }
+{
+    &frame[..frame.len().min(6)]
+}
+
 // 01: "Destination FFFFFFFFFFFFh".
 #[tactic(auto, using(crate::proofs::Address::same_bytes))]
-pub fn is_broadcast(head: &Head) -> bool
-    ensures { result ≡ is_broadcast head.now }
+pub fn is_broadcast(frame: &[u8]) -> bool
+    ensures { result ≡ is_broadcast (take 14 frame.now) }
 {
-    head[..6] == [0xFF; 6]
+    destination(frame) == [0xFF; 6].as_slice()
 }
 
 // 01: "A group address has bit 0 of its first byte set." A broadcast is one too.
-pub fn is_group(head: &Head) -> bool
-    ensures { result ≡ is_group head.now }
+pub fn is_group(frame: &[u8]) -> bool
+    ensures { result ≡ is_group (take 14 frame.now) }
 {
-    bit_is_set(0, u32::from(head[0]))
+    bit_is_set(0, u32::from(byte_at(frame, 0)))
 }
 
 // The destination is our address.
 #[tactic(auto, using(crate::proofs::Address::same_bytes))]
-pub fn is_ours(r: Registers, head: &Head) -> bool
-    ensures { result ≡ same (destination head.now) (ours r) }
+pub fn is_ours(r: Registers, frame: &[u8]) -> bool
+    ensures { result ≡ same (destination (take 14 frame.now)) (ours r) }
 {
-    head[..6] == ours(r)[..]
+    destination(frame) == ours(r).as_slice()
 }
 
 // 01: "the highest chooses HASHH (1) or HASHL (0)".
@@ -138,23 +143,23 @@ fn hash_word(r: Registers, hash: u32) -> u32
 }
 
 // 01: "the other five, x^30 the highest, number the bit, 0 to 31; pass if it is 1".
-pub fn in_hash(r: Registers, head: &Head) -> bool
-    ensures { result ≡ in_hash r (destination head.now) }
+pub fn in_hash(r: Registers, frame: &[u8]) -> bool
+    ensures { result ≡ in_hash r (destination (take 14 frame.now)) }
 {
-    let hash = checksum::hash_of(&head[..6]);
+    let hash = checksum::hash_of(destination(frame));
     bit_is_set(hash % 32, hash_word(r, hash))
 }
 
 // The destination passes under one rule of the table.
-// Registers and head stay two arguments here and below, as in paper's definitions: a struct of both would only be taken apart again.
+// Registers and frame stay two arguments of this and the like, as in paper's definitions: a struct of both would only be taken apart again.
 #[tactic(auto, unfolding(paper::specs::Filter::passes_rule))]
-pub fn passes_rule(rule: Rule, r: Registers, head: &Head) -> bool
-    ensures { result ≡ passes_rule rule r (destination head.now) }
+pub fn passes_rule(rule: Rule, r: Registers, frame: &[u8]) -> bool
+    ensures { result ≡ passes_rule rule r (destination (take 14 frame.now)) }
 {
     match rule {
-        Rule::Equal => is_ours(r, head),
-        Rule::NotEqual => !is_ours(r, head),
-        Rule::Hash => in_hash(r, head),
+        Rule::Equal => is_ours(r, frame),
+        Rule::NotEqual => !is_ours(r, frame),
+        Rule::Hash => in_hash(r, frame),
         Rule::Pass => true,
     }
 }
@@ -162,27 +167,27 @@ pub fn passes_rule(rule: Rule, r: Registers, head: &Head) -> bool
 // The destination, if no broadcast, passes under a setting: by the rule for group addresses, or by that for individual ones. None passes where the setting
 // is undefined.
 #[tactic(auto, unfolding(paper::specs::Filter::passes_setting))]
-fn passes_setting(setting: Setting, r: Registers, head: &Head) -> bool
-    ensures { result ≡ passes_setting setting r head.now }
+fn passes_setting(setting: Setting, r: Registers, frame: &[u8]) -> bool
+    ensures { result ≡ passes_setting setting r (take 14 frame.now) }
 {
     let Some(rules) = setting else {
         return false;
     };
-    let rule = if is_group(head) {
+    let rule = if is_group(frame) {
         rules.group
     } else {
         rules.individual
     };
-    passes_rule(rule, r, head)
+    passes_rule(rule, r, frame)
 }
 
 // The filter says yes (01: "Destination FFFFFFFFFFFFh passes exactly when BCAST is clear, in every mode (ours). Otherwise, by .. the setting").
 #[tactic(auto, unfolding(paper::specs::Filter::passes))]
-pub fn passes(r: Registers, head: &Head) -> bool
-    ensures { result ≡ passes r head.now }
+pub fn passes(r: Registers, frame: &[u8]) -> bool
+    ensures { result ≡ passes r (take 14 frame.now) }
 {
-    if is_broadcast(head) {
+    if is_broadcast(frame) {
         return !bit_is_set(11, r.maccr);
     }
-    passes_setting(setting_of(r.maccr), r, head)
+    passes_setting(setting_of(r.maccr), r, frame)
 }

@@ -1,2 +1,3 @@
 -- Laws that the proofs of receive cite.
 pub mod Lines
+pub mod TypePart

@@ -1,15 +1,13 @@
 // The judging of an arriving frame: the seven lines in their order (paper 01, An arriving frame). Nothing is written here.
-ghost use Rattle.std.specs.Prelude.{◌≡◌, not, ◌&&◌, ◌||◌};
+ghost use Rattle.std.specs.Prelude.{◌≡◌, not, ◌&&◌, take};
 ghost use Rattle.paper.specs.Words.{bit};
-ghost use Rattle.paper.specs.Registers.{RXALL, PASSBAD};
+ghost use Rattle.paper.specs.Registers.{RXALL};
 ghost use Rattle.paper.specs.Filter.{passes};
-ghost use Rattle.paper.specs.Status.{is_runt, collision};
-ghost use Rattle.paper.specs.Arrivals.{refuses_length, room};
+ghost use Rattle.paper.specs.Arrivals.{refuses_length, discards, room};
 ghost use Rattle.receive.specs.Judging.{seen, free, judged, verdict_of};
 
 use crate::Wire;
 use entry::Sound;
-use filter::Head;
 use paper::{Arrival, Fifo, Refusal, Registers, Room};
 use words::fields::{bit_is_set, good_flags};
 
@@ -20,18 +18,19 @@ fn refuses_length(len: usize) -> bool
     (len == 0) | (2048 < len)
 }
 
-// 01, line 4: "with PASSBAD clear, L below 64 or collision seen".
-fn is_bad(r: Registers, w: Wire) -> bool
-    ensures { result ≡ (not (bit PASSBAD r.maccr) && (is_runt (seen w.entry) || collision (seen w.entry))) }
+// 01, line 4: "L below 14 (ours); or, with PASSBAD clear, L below 64 or collision seen"
+fn discards(r: Registers, w: Wire) -> bool
+    ensures { result ≡ discards r (seen w.entry) }
 {
-    !bit_is_set(16, r.maccr) & ((w.frame.len() < 64) | bit_is_set(6, w.flags))
+    let passbad = bit_is_set(16, r.maccr);
+    (w.frame.len() < 14) | (!passbad & ((w.frame.len() < 64) | bit_is_set(6, w.flags)))
 }
 
 // 01, line 5: "Filter says no and RXALL is clear".
-fn filters(r: Registers, head: &Head) -> bool
-    ensures { result ≡ (not (passes r head.now) && not (bit RXALL r.maccr)) }
+fn filters(r: Registers, frame: &[u8]) -> bool
+    ensures { result ≡ (not (passes r (take 14 frame.now)) && not (bit RXALL r.maccr)) }
 {
-    !filter::passes(r, head) & !bit_is_set(31, r.maccr)
+    !filter::passes(r, frame) & !bit_is_set(31, r.maccr)
 }
 
 // 01, line 6: a frame of len bytes finds its data words and one status free, or not.
@@ -58,14 +57,10 @@ fn free(x: Sound, f: Fifo) -> u32
 fn judge(r: Registers, words: u32, statuses: u32, w: Wire) -> Arrival
     ensures { result ≡ judged r words statuses (seen w.entry) }
 {
-    // line 4: "L below 14 (ours)"
-    let Some(head) = w.frame.first_chunk::<14>() else {
-        return Arrival::Discarded;
-    };
-    if is_bad(r, w) {
+    if discards(r, w) {
         return Arrival::Discarded;
     }
-    if filters(r, head) {
+    if filters(r, w.frame) {
         return Arrival::Filtered;
     }
     match has_room(w.frame.len(), words, statuses) {

@@ -1,12 +1,11 @@
 // The RX status of a frame that is stored (paper 01, An arriving frame, "RX status").
-ghost use Rattle.std.specs.Prelude.{◌≡◌, ◌+◌, ◌*◌, ◌^◌, ◌≤◌, not, length, slice_index};
+ghost use Rattle.std.specs.Prelude.{◌≡◌, ◌+◌, ◌*◌, ◌^◌, ◌≤◌, not, length, slice_index, take};
 ghost use Rattle.paper.specs.Filter.{passes};
 ghost use Rattle.paper.specs.Status.{wrong_length, longest, status};
 ghost use Rattle.receive.specs.Judging.{seen, Sized};
 ghost use Rattle.receive.specs.Marks.{kind_of, marks_of};
 
 use crate::Wire;
-use filter::Head;
 use paper::Registers;
 use words::fields::bit_is_set;
 use words::status::{Marks, rx_status};
@@ -39,14 +38,14 @@ fn wrong_length(v: u32, len: u32) -> bool
 }
 
 // What the destination says.
-fn kind_of(r: Registers, head: &Head) -> Kind
-    ensures { result ≡ kind_of r head.now }
+fn kind_of(r: Registers, frame: &[u8]) -> Kind
+    ensures { result ≡ kind_of r (take 14 frame.now) }
 {
-    let broadcast = filter::is_broadcast(head);
+    let broadcast = filter::is_broadcast(frame);
     Kind {
-        miss: !filter::passes(r, head),
+        miss: !filter::passes(r, frame),
         broadcast,
-        group: filter::is_group(head) & !broadcast,
+        group: filter::is_group(frame) & !broadcast,
     }
 }
 
@@ -70,16 +69,15 @@ fn marks(k: Kind, v: u32, len: u32, flags: u32, badfcs: bool) -> Marks
 }
 
 // The RX status of a frame.
-#[tactic(auto, unfolding(paper::specs::Status::status, words::specs::Status::status_of))]
+#[tactic(auto, unfolding(paper::specs::Status::status, words::specs::Status::status_of), using(crate::proofs::TypePart::type_part))]
 pub fn status_of(r: Registers, w: Wire) -> u32
     requires { Sized (length w.frame.now) }
     ensures { result ≡ status longest (not (passes r (seen w.entry).head)) (seen w.entry) }
 {
     // by `as`: a usize has no From to u32, and try_from would have a case that cannot be
     let len = w.frame.len() as u32;
-    let head = w.frame.first_chunk::<14>().unwrap();
     let v = length_or_type(&w.frame[12..]);
     let fits = checksum::fcs_fits(w.frame);
-    let m = marks(kind_of(r, head), v, len, w.flags, !fits);
+    let m = marks(kind_of(r, w.frame), v, len, w.flags, !fits);
     rx_status(len, m)
 }
