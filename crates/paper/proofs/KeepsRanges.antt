@@ -1,5 +1,4 @@
 -- Arrivals, reads, pops and peeks keep the ranges, on any state in range and with any 4,096 words, reached or not.
---   ready_sound           a ready state over 4,096 words makes a sound world
 --   in_range_act          in range, with 4,096 words lent, a call does what is decided
 --   keeps_ranges
 -- Assumes nothing.
