@@ -187,7 +187,7 @@ pub fn passes(r: Registers, frame: &[u8]) -> bool
     ensures { result ≡ passes r (take 14 frame.now) }
 {
     if is_broadcast(frame) {
-        return !bit_is_set(11, r.maccr);
+        return !bit_is_set(Registers::BCAST, r.maccr);
     }
     passes_setting(setting_of(r.maccr), r, frame)
 }

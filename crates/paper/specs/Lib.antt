@@ -19,3 +19,4 @@ pub mod Packets
 pub mod Runs
 pub mod Promises
 pub mod Twins
+pub mod Names

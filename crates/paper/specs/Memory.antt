@@ -1,6 +1,5 @@
 -- The lent memory and its four FIFOs. Paper 01, Memory.
 --   words_lent            the words that the caller lends
---   Fifo                  which of the four
 --   size f n, base f n    the words of a FIFO, and its first word in memory, for TX_FIF_SZ n
 --   Four A, of q f        one A for each FIFO, and that of FIFO f
 --   ring f s, with_ring f r s    the ring of FIFO f in the state s, and s with another one

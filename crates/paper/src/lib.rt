@@ -2,9 +2,10 @@
 // What they mean is said in specs/; the functions here are proved equal to it.
 #![tactic(auto)]
 
-ghost use Rattle.std.specs.Prelude.{◌≡◌, Ok, Err};
+ghost use Rattle.std.specs.Prelude.{◌≡◌, Ok, Err, Some};
 ghost use Rattle.paper.specs.Memory.{ring, with_ring};
 ghost use Rattle.paper.specs.Fresh.{fresh_registers, fresh_port, empty, fresh_state};
+ghost use Rattle.paper.specs.Names.{rule_name};
 ghost use Rattle.paper.specs.Arrivals.{line};
 ghost use Rattle.paper.specs.Refusals.{number, said};
 
@@ -181,6 +182,17 @@ impl Registers {
 
     pub const SPLIT: u32 = 5;
 
+    // Bits of MAC_CR by number (01: "31 RXALL, .. 16 PASSBAD, .. 11 BCAST, 3 TXEN, 2 RXEN").
+    pub const RXALL: u32 = 31;
+
+    pub const PASSBAD: u32 = 16;
+
+    pub const BCAST: u32 = 11;
+
+    pub const TXEN: u32 = 3;
+
+    pub const RXEN: u32 = 2;
+
     // The defaults.
     pub fn fresh() -> Self
         ensures { result ≡ fresh_registers }
@@ -301,6 +313,8 @@ impl From<Answer> for Said {
 }
 
 impl fmt::Display for Rule {
+    ghost output = { λ r. Some (rule_name r) };
+
     fn fmt<W: fmt::Write>(&self, f: &mut fmt::Formatter<W>) -> fmt::Result {
         f.write_str(match self {
             Rule::Equal => "equal",

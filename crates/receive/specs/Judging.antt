@@ -33,7 +33,7 @@ seen w = look w.frame.now w.flags
 abbrev pub free : Fifo → State → ℕ
 free f s = size f s.control.registers.n - (ring f s).count
 
--- 01, line 4, line 5: "Filter says no and RXALL is clear", lines 6 and 7: the last lines of `arrival`, word for word
+-- 01, line 4, line 5: "Filter says no and RXALL is clear", lines 6 and 7: the last lines of `arrival`, each without its Ok
 abbrev pub judged : Registers → (words statuses : ℕ) → Look → Arrival
 judged r words statuses l =
     if discards r l then Discarded else

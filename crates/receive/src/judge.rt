@@ -22,7 +22,7 @@ fn refuses_length(len: usize) -> bool
 fn discards(r: Registers, w: Wire) -> bool
     ensures { result ≡ discards r (seen w.entry) }
 {
-    let passbad = bit_is_set(16, r.maccr);
+    let passbad = bit_is_set(Registers::PASSBAD, r.maccr);
     (w.frame.len() < 14) | (!passbad & ((w.frame.len() < 64) | bit_is_set(6, w.flags)))
 }
 
@@ -30,7 +30,7 @@ fn discards(r: Registers, w: Wire) -> bool
 fn filters(r: Registers, frame: &[u8]) -> bool
     ensures { result ≡ (not (passes r (take 14 frame.now)) && not (bit RXALL r.maccr)) }
 {
-    !filter::passes(r, frame) & !bit_is_set(31, r.maccr)
+    !filter::passes(r, frame) & !bit_is_set(Registers::RXALL, r.maccr)
 }
 
 // 01, line 6: a frame of len bytes finds its data words and one status free, or not.
@@ -81,7 +81,7 @@ pub fn verdict(x: Sound, w: Wire) -> Result<Arrival, Refusal>
         return Err(Refusal::OtherBits);
     }
     let r = x.state.control.registers;
-    if !bit_is_set(2, r.maccr) {
+    if !bit_is_set(Registers::RXEN, r.maccr) {
         return Ok(Arrival::Ignored);
     }
     Ok(judge(r, free(x, Fifo::RxData), free(x, Fifo::RxStatus), w))

@@ -6,12 +6,6 @@ ghost use Rattle.registers.specs.States.{levels_of};
 
 use paper::{Expect, Packet, Port, Registers, State};
 
-// MAC_CR, bit 3: sending is on.
-const TXEN: u32 = 3;
-
-// MAC_CR, bit 2: receiving is on.
-const RXEN: u32 = 2;
-
 // Bit i of v is clear.
 fn is_clear(i: u32, v: u32) -> bool
     requires { i < 32 }
@@ -25,14 +19,14 @@ fn is_clear(i: u32, v: u32) -> bool
 pub fn may_dump_tx_data(r: Registers) -> bool
     ensures { result ≡ may_dump_tx_data r }
 {
-    is_clear(TXEN, r.maccr)
+    is_clear(Registers::TXEN, r.maccr)
 }
 
 // 01: "Dumping RX needs RXEN clear"
 pub fn may_dump_rx(r: Registers) -> bool
     ensures { result ≡ may_dump_rx r }
 {
-    is_clear(RXEN, r.maccr)
+    is_clear(Registers::RXEN, r.maccr)
 }
 
 // 01: "no transmit buffer or packet is open and no transmit error stands"
@@ -52,5 +46,5 @@ pub fn may_resize(s: State) -> bool
         & (s.txstatus.count == 0)
         & (s.rxdata.count == 0)
         & (s.rxstatus.count == 0);
-    empty & is_clear(TXEN, maccr) & is_clear(RXEN, maccr) & is_idle(s.control.port)
+    empty & is_clear(Registers::TXEN, maccr) & is_clear(Registers::RXEN, maccr) & is_idle(s.control.port)
 }
