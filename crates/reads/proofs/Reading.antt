@@ -1,6 +1,7 @@
 -- What is decided of a call that reads the oldest word of a FIFO is that word's reply.
 --   taking f              the changes of a read that takes the oldest word of FIFO f
 --   at_below, held_below  in range, where the words of FIFO f lie
+--   at_inside             in range, the place of its oldest word is in the lent memory
 --   read_told             the contract of any call that reads the oldest word of FIFO f
 --   data_read, rx_popped, tx_popped, rx_peeked, tx_peeked    that of each call, from its reply
 -- Assumes nothing.
@@ -24,9 +25,10 @@ use Rattle.paper.specs.Calls.{Call, RxDataRead, RxStatusPop, RxStatusPeek, TxSta
 use Rattle.paper.specs.Acts.{unchanged, does, refuses, oldest}
 use Rattle.paper.specs.Machine.{World, waits, decide, apply}
 use Rattle.paper.specs.Promises.{told, told_of}
+use Rattle.paper.proofs.Memory.{within}
 use Rattle.paper.proofs.Rings.{apply_nothing}
 use Rattle.paper.proofs.Contracts.{world, told_same, told_decided, none_waits, oldest_waits}
-use Rattle.entry.proofs.Parts.{in_ring}
+use Rattle.entry.proofs.Parts.{split_range, in_ring}
 use Rattle.reads.specs.Oldest.{oldest_of, oldest_in, left_of}
 
 abbrev taking : Fifo → Four Change
@@ -58,6 +60,12 @@ at_below f s range = (in_ring s range f).at_lt
 
 pub held_below : (f : Fifo) (s : State) → in_range s ≡ true → (ring f s).count ≤ size f s.control.registers.n
 held_below f s range = (in_ring s range f).count_le
+
+-- And the place of the oldest word is in the lent memory.
+pub at_inside : (f : Fifo) (s : State) → in_range s ≡ true → base f s.control.registers.n + (ring f s).at < words_lent
+at_inside f s range =
+    let n = split_range s range in
+    omega (arith, within f s.control.registers.n n.0 n.1, at_below f s range)
 
 module _ (s : State) (m : List ℕ) (long : length m ≡ words_lent) (range : in_range s ≡ true) where
   module _ (c : Call) (f : Fifo) (lent : lends c ≡ []) where

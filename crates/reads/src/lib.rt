@@ -14,7 +14,7 @@ use entry::Sound;
 use paper::{Fifo, Refusal, Reply};
 
 // The oldest word of a FIFO; refusal 11 where none waits.
-#[tactic(auto, using(crate::proofs::Reading::at_below))]
+#[tactic(auto, using(crate::proofs::Reading::at_inside))]
 fn oldest(x: Sound, f: Fifo, mem: &[u32]) -> Result<u32, Refusal>
     requires { length mem.now ≡ words_lent }
     ensures { result ≡ oldest_in f x.state mem.now }

@@ -3,7 +3,7 @@
 --   none_memory, none_ring    a put of no words
 --   words_left, words_done    of a frame's data words from word k on, the first, and the end
 --   Going                     k of the words are put, and the words left come to the same as all of them put at the start
---   going_first, going_on, going_done    no word put yet, one more put, and none left
+--   going_on, going_done      one more word put, and none left
 -- Assumes nothing.
 use mathlib.Core.Path.{◌≡◌, refl, sym, ap, ◌∙◌}
 use mathlib.Core.List.{List, [], ◌∷◌, ◌++◌}
@@ -63,10 +63,6 @@ pub record Going (b s : ℕ) (ws : List ℕ) (r₀ : Ring) (m₀ : List ℕ) (r 
   pub memory : memory_after b s (puts (drop k ws)) r m ≡ memory_after b s (puts ws) r₀ m₀
 
 module _ {b s : ℕ} {ws : List ℕ} {r₀ : Ring} {m₀ : List ℕ} where
-  -- so it is at the start
-  pub going_first : Going b s ws r₀ m₀ r₀ m₀ 0
-  going_first = record { same = refl; oldest = refl; raised = omega arith; ring = refl; memory = refl }
-
   -- so it is after one more word
   pub going_on : {r r' : Ring} {m m' : List ℕ} {k w : ℕ} → Going b s ws r₀ m₀ r m k → drop k ws ≡ w ∷ drop (k + 1) ws
       → Changed b s (puts (w ∷ [])) r r' m m' → Going b s ws r₀ m₀ r' m' (k + 1)

@@ -5,7 +5,8 @@
 --   InReach     word i, the oldest being word 0, can be asked for; it need not wait
 --   Changed     the ring q and the memory m' are what a change makes of r and m
 --   Placed      the place of word k, and that it lies in the ring's part
--- That a part lies in the 4,096 words is the invariant of `Part`; numbers of words up to 4096 and 8192 keep sums within 32 bits.
+-- That base and size are at most 4096 is the invariant of `Part`; with numbers of words up to 4096 and 8192 it keeps sums within 32 bits.
+-- That the part lies in the len words is asked here.
 -- Assumes nothing.
 use Rattle.std.specs.Prelude.{◌≡◌, List, ℕ, ◌+◌, ◌≤◌, ◌<◌}
 use Rattle.paper.specs.declared.Ring.{Ring}

@@ -12,13 +12,15 @@ use paper::Ring;
 
 pub mod split;
 
-// A part of the lent memory that is a FIFO's: its first word, and its words.
+// A part of the lent memory that is a FIFO's: its first word, and its words. Numbers up to 4,096 keep sums within 32 bits; that the part lies in the memory is
+// asked where the memory is lent. A ring lies in the state by value, without its part, which follows from the split: so the two are not one struct.
 #[derive(Clone, Copy)]
 pub struct Part {
     pub base: u32,
     pub size: u32,
     pub ghost some: { 0 < size },
-    pub ghost inside: { base + size ≤ 4096 },
+    pub ghost low: { base ≤ 4096 },
+    pub ghost small: { size ≤ 4096 },
 }
 
 impl Part {
