@@ -1,5 +1,6 @@
 -- What the test of entry says to the calls behind it.
 --   told_shut             what a call's contract comes to where it did not pass: the refusal, with state and memory as they were
+--   told_entered          and of a call made behind the test, where it did not pass and where it did
 -- Assumes nothing.
 use Rattle.std.specs.Prelude.{if◌then◌else◌, Option, Some, None, Err}
 use mathlib.Core.Path.{◌≡◌, refl, sym}

@@ -2,6 +2,7 @@
 //   sound     a state that passed, for the calls behind it
 //   values    the register values that a write accepts
 //   port      what the transmit port holds
+// Tests of numbers are joined by &: stopping early saves nothing, and the one result is proved at once.
 #![tactic(auto)]
 
 ghost use Rattle.std.specs.Prelude.{◌≡◌, MatchResult, Some, None, Err, Ok};
@@ -24,7 +25,7 @@ fn ring_in_range(size: u32, r: Ring) -> bool
     (r.at < size) & (r.count <= size)
 }
 
-// The four FIFOs, each by its own size.
+// The four FIFOs, each by its own size; written out, as the definition has it.
 fn rings_in_range(split: Split, s: State) -> bool
     ensures { result ≡ rings_in_range split.n s }
 {

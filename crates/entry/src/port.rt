@@ -55,7 +55,7 @@ fn payload_in_range(a: u32, left: u32, packet: Packet) -> bool
 {
     let open = is_known(packet) & packet_in_range(packet);
     let good = fields::good_a(!fields::is_first(a), a);
-    open & good & (1 <= left) & (left <= fields::host_words(a))
+    open & good & (1..=fields::host_words(a)).contains(&left)
 }
 
 // What the port expects next is in its range.

@@ -9,7 +9,7 @@ use words::fields;
 pub fn good_n(n: u32) -> bool
     ensures { result ≡ good_n n }
 {
-    (2 <= n) & (n <= 14)
+    (2..=14).contains(&n)
 }
 
 // 01: "so is an ADDRH above FFFFh"
