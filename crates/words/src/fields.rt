@@ -203,6 +203,8 @@ pub fn sizes_agree(a: u32, b: u32, sizes: u32) -> bool
     if is_last(a) { sum == p } else { sum <= p }
 }
 
+// good_flags, good_outcome and only_carried are each a test by the paper's name, over has_only; each has a mask of its own.
+
 // Bits 6, 3 and 2: collision seen, MII error, dribble.
 const FLAGS: u32 = 0x4C;
 

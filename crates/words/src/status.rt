@@ -89,7 +89,7 @@ pub fn rx_fifo_inf(statuses: u32, words: u32) -> u32
     statuses << 16 | words << 2
 }
 
-// The words of TX data that are free with this many waiting; 0 where more wait than it holds.
+// The words of TX data that are free with this many waiting; 0 where more wait than it holds. This crate lies below rings, so the size stands here too.
 fn free_words(n: u32, words: u32) -> u32
     requires { (2 ≤ n) × (n ≤ 14) }
     ensures { result ≡ size TxData n - words }
