@@ -1,5 +1,4 @@
 -- What follows from the definitions. First the laws that callers cite in place of the definitions' text, then what is computed.
-pub mod Choice
 pub mod Words
 pub mod Memory
 pub mod Rings

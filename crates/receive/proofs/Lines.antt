@@ -23,7 +23,7 @@ use Rattle.paper.specs.Calls.{Arrive}
 use Rattle.paper.specs.Acts.{arrives, arrive}
 use Rattle.paper.specs.Machine.{waits, decide, apply}
 use Rattle.paper.specs.Promises.{told, told_of}
-use Rattle.paper.proofs.Choice.{if_cases, or_neither}
+use Rattle.std.proofs.lemmas.Bool.{cond_both, or_parts}
 use Rattle.paper.proofs.ArrivalLines.{Says, arrival_says, arrives_answer}
 use Rattle.paper.proofs.Contracts.{world, told_decided, levels_are}
 use Rattle.entry.proofs.Parts.{in_ring}
@@ -37,13 +37,13 @@ use Rattle.receive.specs.Judging.{seen, free, verdict_of, Sized, Fitting, arrive
 stored_sized : (r : Registers) (words statuses : ℕ) (l : Look) → Ok Stored ≡ arrival r words statuses l → Sized l.len
 unfolding arrival
 stored_sized r words statuses l =
-    if_cases says (refuses_length l.len) (λ _ (e : Ok Stored ≡ Err ArrivingLength). absurd (cc)) λ good.
-    if_cases says (not (good_flags l.flags)) (λ _ (e : Ok Stored ≡ Err OtherBits). absurd (cc)) λ flags.
-    if_cases says (not (bit RXEN r.maccr)) (λ _ (e : Ok Stored ≡ Ok Ignored). absurd (cc)) λ receiving.
-    if_cases says (discards r l) (λ _ (e : Ok Stored ≡ Ok Discarded). absurd (cc)) λ whole _.
+    cond_both (refuses_length l.len) _ _ says (λ _ (e : Ok Stored ≡ Err ArrivingLength). absurd (cc)) λ good.
+    cond_both (not (good_flags l.flags)) _ _ says (λ _ (e : Ok Stored ≡ Err OtherBits). absurd (cc)) λ flags.
+    cond_both (not (bit RXEN r.maccr)) _ _ says (λ _ (e : Ok Stored ≡ Ok Ignored). absurd (cc)) λ receiving.
+    cond_both (discards r l) _ _ says (λ _ (e : Ok Stored ≡ Ok Discarded). absurd (cc)) λ whole _.
     record {
-      least = ltb-false _ _ (or_neither (ltb l.len 14) _ whole).0;
-      most = ltb-false _ _ (or_neither (eqb l.len 0) _ good).1;
+      least = ltb-false _ _ (or_parts (ltb l.len 14) _ whole).0;
+      most = ltb-false _ _ (or_parts (eqb l.len 0) _ good).1;
     }
   where
     says : Verdict → Type 0

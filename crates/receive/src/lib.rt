@@ -2,6 +2,7 @@
 // written before all of it is known to fit.
 //   judge     the seven lines
 //   status    the RX status
+// Tests of numbers are joined by & and |: stopping early saves nothing, and the one result is proved at once.
 // The lent memory is a slice of 4,096 words, as the paper names it, and so each function that writes it asks for that length.
 #![tactic(auto)]
 

@@ -46,5 +46,8 @@ pub fn may_resize(s: State) -> bool
         & (s.txstatus.count == 0)
         & (s.rxdata.count == 0)
         & (s.rxstatus.count == 0);
-    empty & is_clear(Registers::TXEN, maccr) & is_clear(Registers::RXEN, maccr) & is_idle(s.control.port)
+    empty
+        & is_clear(Registers::TXEN, maccr)
+        & is_clear(Registers::RXEN, maccr)
+        & is_idle(s.control.port)
 }

@@ -1,7 +1,7 @@
 // The work of the register calls: MAC registers, split, levels, RX_DROP, dumps and reset (01, Registers and Memory). A state goes in by value, and the reply
 // holds the state after the call. None of these calls reads or writes the lent memory. Each but reset is for a state that passed the test of `entry`.
 //   mac       the MAC registers by number
-//   allowed   whether setting n, or a dump, is allowed now
+//   allowed   whether setting n, or a dump, is allowed now; its tests are joined by &, since stopping early saves nothing and the one result is proved at once
 #![tactic(auto)]
 
 ghost use Rattle.paper.specs.Calls.{Reset, MacWrite, MacRead, SetSplit, Split, RxFifoInf, TxFifoInf, RxDrop, DumpTxData, DumpTxStatus, DumpRx};

@@ -11,7 +11,7 @@ use lib.Dec.{eqb}
 use lib.Pow.{pow_pos}
 use Rattle.std.proofs.lemmas.Nat.{mod-pow-add}
 use borrow.Author.Tests.{eqb-true, eqb-false}
-use Rattle.paper.proofs.Choice.{if_cases}
+use Rattle.std.proofs.lemmas.Bool.{cond_both}
 use Rattle.paper.specs.Words.{bit, digit, gathered, only_bits}
 use Rattle.words.specs.Masks.{bits_below}
 
@@ -28,7 +28,7 @@ mask_gathers (suc k) m v =
     let small = pow_pos k in
     let low : digit k v % 2 ≡ digit k v = omega arith in
     rw (top_digit k v, top_digit k m, and_block k (digit k v) (digit k m) (v % 2 ^ k) (m % 2 ^ k) (mod-lt v small) (mod-lt m small), rest)
-    (if_cases (λ is. bit_and (digit k v) (digit k m) * 2 ^ k + gathered (bits_below k m) v ≡ gathered is v) (bit k m)
+    (cond_both (bit k m) _ _ (λ is. bit_and (digit k v) (digit k m) * 2 ^ k + gathered (bits_below k m) v ≡ gathered is v)
     (λ h. rw (eqb-true (digit k m) 1 h, and_mask (digit k v) 1, low) refl)
     (λ h. let none : digit k m ≡ 0 = omega (arith, eqb-false (digit k m) 1 h) in rw (none, and_zero_r (digit k v), zero-mul (2 ^ k), zero-add) refl))
 
