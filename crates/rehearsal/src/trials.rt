@@ -13,6 +13,7 @@ pub const PASSBAD: u32 = 0x0001_0004;
 pub const TXEN: u32 = 0x0000_0008;
 
 // What the trials work on: where their lines are printed, and the lent memory.
+// The state is no part of it: a part goes on from one state more than once.
 #[derive(Drop)]
 pub struct Bench<'a, P> {
     pub rt: &'a P,
