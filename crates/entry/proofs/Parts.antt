@@ -1,6 +1,7 @@
 -- What the functions of rings ask, for each FIFO of a state that passed the entry test.
 --   split_range           n is 2 to 14
 --   in_ring               each ring is in range
+--   part_inside           each part lies in the lent memory
 --   words_fit             so many words more fit, where the ring has room for them
 -- Assumes nothing.
 use mathlib.Core.Path.{◌≡◌}
@@ -34,13 +35,11 @@ in_ring s e =
     (record { at_lt = r.rxdata_at; count_le = r.rxdata_count })
     (record { at_lt = r.rxstatus_at; count_le = r.rxstatus_count })
 
+-- A FIFO's part lies in the lent memory.
+pub part_inside : (f : Fifo) (s : State) (m : List ℕ) → in_range s ≡ true → length m ≡ words_lent → base f (split_of s) + size f (split_of s) ≤ length m
+part_inside f s m range long = let n = split_range s range in omega (arith, within f (split_of s) n.0 n.1, long)
+
 -- Words for which there is room can be put.
 pub words_fit : (f : Fifo) (s : State) (m : List ℕ) → in_range s ≡ true → length m ≡ words_lent → (k : ℕ) → (ring f s).count + k ≤ size f (split_of s)
     → HasRoom (base f (split_of s)) (size f (split_of s)) (ring f s).at (ring f s).count k (length m)
-words_fit f s m range long k h =
-    let n = split_range s range in
-    record {
-      inside = omega (arith, within f (split_of s) n.0 n.1, long);
-      oldest = (in_ring s range f).at_lt;
-      room = h;
-    }
+words_fit f s m range long k h = record { inside = part_inside f s m range long; oldest = (in_ring s range f).at_lt; room = h }

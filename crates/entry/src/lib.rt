@@ -56,18 +56,30 @@ pub fn in_range(s: State) -> bool
     fifos & expected & whole_in_range(port.whole, s.txdata.count)
 }
 
-// Whether a call may go on, with this state and a lent memory of so many words: 14, then 15.
-pub fn enter(s: State, words: usize) -> Result<Sound, Refusal>
-    ensures { MatchResult result (λ x. (x.state ≡ s) × (entry_of s words ≡ None)) (λ k. entry_of s words ≡ Some k) }
+// The refusal of a call, with this state and a lent memory of so many words, or none: 14, then 15.
+// It gives no state back, and is never inlined: the state is not copied out of it and in again.
+#[inline(never)]
+fn refusal(s: State, words: usize) -> Option<Refusal>
+    ensures { result ≡ entry_of s words }
 {
     let ranges = in_range(s);
     if words != 4096 {
-        return Err(Refusal::MemoryLength);
+        return Some(Refusal::MemoryLength);
     }
     if ranges {
-        Ok(Sound { state: s })
+        None
     } else {
-        Err(Refusal::OutOfRange)
+        Some(Refusal::OutOfRange)
+    }
+}
+
+// Whether a call may go on, with this state and a lent memory of so many words.
+pub fn enter(s: State, words: usize) -> Result<Sound, Refusal>
+    ensures { MatchResult result (λ x. (x.state ≡ s) × (entry_of s words ≡ None)) (λ k. entry_of s words ≡ Some k) }
+{
+    match refusal(s, words) {
+        Some(k) => Err(k),
+        None => Ok(Sound { state: s }),
     }
 }
 
@@ -77,8 +89,8 @@ pub fn entered<T, F: FnOnce(Sound) -> Reply<T>>(s: State, words: usize, call: F)
     ensures shut { (k : Refusal) → entry_of s words ≡ Some k → result ≡ record { answer = Err k; state = s } }
     ensures clear { entry_of s words ≡ None → (x : Sound) × (x.state ≡ s) × F.post call x result }
 {
-    match enter(s, words) {
-        Ok(x) => call(x),
-        Err(k) => Reply::refused(k, s),
+    match refusal(s, words) {
+        Some(k) => Reply::refused(k, s),
+        None => call(Sound { state: s }),
     }
 }
