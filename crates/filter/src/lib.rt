@@ -76,13 +76,16 @@ pub const SETTINGS: [Setting; 32] = [
     None, None, None, None,
 ];
 
+// The table as a static, which lies on no function's stack: a constant is laid there anew at each look-up.
+static TABLE: [Setting; 32] = SETTINGS;
+
 // The setting with number k.
 #[tactic(auto, unfolding(paper::specs::Registers::settings))]
 pub fn setting_at(k: usize) -> Setting
     requires { k < 32 }
     ensures { result ≡ get_or settings k None }
 {
-    SETTINGS[k]
+    TABLE[k]
 }
 
 // The setting of a MAC_CR.
@@ -108,12 +111,22 @@ fn destination(frame: &[u8]) -> &[u8]
     &frame[..frame.len().min(6)]
 }
 
+// The destination of a frame is this address; that of a frame with fewer bytes is none. By arrays, whose length the compiler knows.
+#[tactic(auto, using(crate::proofs::Address::same_bytes, crate::proofs::Address::same_shorter, crate::proofs::Address::destination_head))]
+fn is_to(frame: &[u8], address: [u8; 6]) -> bool
+    ensures { result ≡ same (destination (take 14 frame.now)) address }
+{
+    match frame.first_chunk::<6>() {
+        Some(to) => *to == address,
+        None => false,
+    }
+}
+
 // 01: "Destination FFFFFFFFFFFFh".
-#[tactic(auto, using(crate::proofs::Address::same_bytes))]
 pub fn is_broadcast(frame: &[u8]) -> bool
     ensures { result ≡ is_broadcast (take 14 frame.now) }
 {
-    destination(frame) == [0xFF; 6].as_slice()
+    is_to(frame, [0xFF; 6])
 }
 
 // 01: "A group address has bit 0 of its first byte set." A broadcast is one too.
@@ -124,11 +137,10 @@ pub fn is_group(frame: &[u8]) -> bool
 }
 
 // The destination is our address.
-#[tactic(auto, using(crate::proofs::Address::same_bytes))]
 pub fn is_ours(r: Registers, frame: &[u8]) -> bool
     ensures { result ≡ same (destination (take 14 frame.now)) (ours r) }
 {
-    destination(frame) == ours(r).as_slice()
+    is_to(frame, ours(r))
 }
 
 // 01: "the highest chooses HASHH (1) or HASHL (0)".
